@@ -1,0 +1,123 @@
+//! Compares the proved library with the model on fixed random inputs: exit 0 means no difference.
+
+mod buckets;
+mod known;
+mod library;
+mod model;
+mod numbers;
+mod packing;
+mod random;
+mod reading;
+
+use random::Random;
+use std::fmt::Debug;
+use std::process::exit;
+
+/// Fewer comparisons than this mean that something was left out.
+const LEAST: u64 = 200_000;
+
+/// A shown answer is cut to this many characters.
+const SHOWN: usize = 1200;
+
+/// Counts the comparisons of each subject and stops the program at the first difference.
+pub struct Tally {
+    subjects: Vec<(&'static str, u64)>,
+    seed: u64,
+}
+
+impl Tally {
+    /// Begins a subject and hands out its random numbers.
+    pub fn subject(&mut self, name: &'static str, seed: u64) -> Random {
+        // Told as it is done: should the library crash, the subject is the one not told yet.
+        self.tell_last();
+        self.subjects.push((name, 0));
+        self.seed = seed;
+        Random::new(seed)
+    }
+
+    fn tell_last(&self) {
+        if let Some((name, compared)) = self.subjects.last() {
+            println!("{name}: {compared} compared");
+        }
+    }
+
+    /// One comparison. The call is put in words only if the answers differ.
+    pub fn same<T: PartialEq + Debug>(
+        &mut self,
+        call: impl FnOnce() -> String,
+        model: T,
+        library: T,
+    ) {
+        let (name, compared) = self.subjects.last_mut().expect("a subject has begun");
+        *compared += 1;
+        if model == library {
+            return;
+        }
+        let (model, library) = (format!("{model:x?}"), format!("{library:x?}"));
+        let from = first_difference(&model, &library);
+        println!("{name}: DIFFERENCE");
+        println!("  seed    {:#x}, comparison {compared}", self.seed);
+        println!("  call    {}", excerpt(&call(), 0));
+        println!("  model   {}", excerpt(&model, from));
+        println!("  library {}", excerpt(&library, from));
+        println!(
+            "  differ  {} | {}",
+            around(&model, from),
+            around(&library, from)
+        );
+        println!("  (hexadecimal; a buffer written to is shown with the {GUARD} before and behind what is lent)");
+        exit(1);
+    }
+}
+
+/// What is lent stands between this many that are not, so that writing past the end shows.
+pub const GUARD: usize = 8;
+
+/// The part of a whole buffer that is lent.
+pub fn lent<T>(whole: &mut [T]) -> &mut [T] {
+    let end = whole.len() - GUARD;
+    &mut whole[GUARD..end]
+}
+
+fn first_difference(a: &str, b: &str) -> usize {
+    let pairs = a.bytes().zip(b.bytes());
+    pairs.take_while(|(a, b)| a == b).count()
+}
+
+/// The text, or a part of it around the position if it is too long to be shown.
+fn excerpt(text: &str, around: usize) -> String {
+    if text.len() <= SHOWN {
+        return String::from(text);
+    }
+    let from = around.saturating_sub(SHOWN / 2);
+    let part: String = text.chars().skip(from).take(SHOWN).collect();
+    format!("[from character {from}] {part} [cut]")
+}
+
+/// The few characters about the position.
+fn around(text: &str, at: usize) -> String {
+    text.chars().skip(at.saturating_sub(16)).take(32).collect()
+}
+
+fn main() {
+    if let Err(what) = known::check_model() {
+        println!("the model itself is wrong: {what}");
+        exit(1);
+    }
+    let mut tally = Tally {
+        subjects: Vec::new(),
+        seed: 0,
+    };
+    numbers::compare(&mut tally);
+    packing::compare(&mut tally);
+    reading::compare(&mut tally);
+    buckets::compare(&mut tally);
+
+    tally.tell_last();
+    let total: u64 = tally.subjects.iter().map(|(_, compared)| compared).sum();
+    if total < LEAST {
+        println!("only {total} comparisons, {LEAST} are asked for");
+        exit(1);
+    }
+    println!("{total} comparisons, no difference");
+}

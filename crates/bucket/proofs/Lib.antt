@@ -1,0 +1,21 @@
+-- The laws of the crate `bucket`, for its own proofs and for the crates above.
+pub mod TestLaws
+pub mod ListLaws
+pub mod OverLaws
+pub mod DigitLaws
+pub mod PackedLaws
+pub mod RoomLaws
+pub mod NumberLaws
+pub mod PackLaws
+pub mod WindowLaws
+pub mod XorLaws
+pub mod CrcLaws
+pub mod TableLaws
+pub mod SaltLaws
+pub mod CountLaws
+pub mod SearchLaws
+pub mod PlaceLaws
+pub mod BucketLaws
+pub mod PurityLaws
+pub mod SmallLaws
+pub mod ColumnLaws

@@ -1,0 +1,39 @@
+-- What tests say of what they chose, and of each other. Assumes nothing.
+use mathlib.Core.Path.{_≡_, refl, sym, ap, _∙_}
+use mathlib.Core.Bool.{Bool, true, false, not, _&&_, cond, true≢false}
+use Prim.Native.Nat.{ℕ, _+_, _-_, _≤_}
+use native.Mathlib.Omega.{arith}
+use lib.Dec.{leb}
+use borrow.Author.Tests.{not-true, not-false, leb-true, leb-false, le-leb, lt-leb}
+
+pub and-both : (a b : Bool) → a && b ≡ true → (a ≡ true) × (b ≡ true)
+and-both true b h = (refl, h)
+and-both false b h = absurd (true≢false (sym h))
+
+pub and-fails : (a : Bool) {b : Bool} → b ≡ false → a && b ≡ false
+and-fails true h = h
+and-fails false h = refl
+
+pub and-holds : {a b : Bool} → a ≡ true → b ≡ true → a && b ≡ true
+and-holds {b = b} h k = ap (λ (t : Bool). t && b) h ∙ k
+
+pub cond-kept : {A : Type 0} {t : Bool} (x y : A) → t ≡ false → y ≡ cond t x y
+cond-kept x y h = sym (ap (λ (t : Bool). cond t x y) h)
+
+pub cond-made : {A : Type 0} {t : Bool} (x y : A) → t ≡ true → x ≡ cond t x y
+cond-made x y h = sym (ap (λ (t : Bool). cond t x y) h)
+
+-- a test that the code made and branched on
+pub test-refused : {r t : Bool} → r ≡ t → not r ≡ true → t ≡ false
+test-refused {r} e h = sym e ∙ not-true r h
+
+pub test-granted : {r t : Bool} → r ≡ t → not r ≡ false → t ≡ true
+test-granted {r} e h = sym e ∙ not-false r h
+
+-- a difference that does not fall below zero, or a sum that does not wrap
+pub leb-move : (a b c : ℕ) → b ≤ c → leb a (c - b) ≡ leb (a + b) c
+leb-move a b c h = go (leb a (c - b)) refl
+  where
+    go : (t : Bool) → leb a (c - b) ≡ t → leb a (c - b) ≡ leb (a + b) c
+    go true e = e ∙ sym (le-leb (a + b) c (omega (arith, leb-true a (c - b) e)))
+    go false e = e ∙ sym (lt-leb (a + b) c (omega (arith, leb-false a (c - b) e)))

@@ -1,0 +1,77 @@
+-- `bucket::crc::tables` meets its contract: the first i entries go by the rule, each row made from the one before it.
+-- Assumes nothing.
+use mathlib.Core.Path.{_≡_, refl, sym, ap, subst, _∙_}
+use mathlib.Core.Logic.{⊎-elim}
+use Prim.Native.Nat.{ℕ, _-_, _<_}
+use native.Mathlib.Omega.{arith}
+use borrow.Author.Needs.{needs}
+use Rattle.bucket.specs.Crc.{steps, entry, crcTables}
+use Rattle.bucket.proofs.TableLaws.{Filled, filled-all, filled-more, entry-first, entry-next}
+use Rattle.bucket.proofs.crc.tables.Statement.{statement}
+use Rattle.bucket.proofs.crc.tables.Tie as tie
+
+abbrev Inv-loop : tie.InvT-loop
+Inv-loop tab₀ i₀ tab i = Filled entry 2048 i tab
+
+abbrev μ-loop : tie.MeasureT-loop
+μ-loop tab₀ i₀ tab i = 2048 - i
+
+loop-holds : tie.Need-loop-holds Inv-loop μ-loop
+loop-holds c = record { within = omega arith; long = refl; each = λ i l. absurd (omega arith) }
+
+cast-v : tie.Need-cast-v Inv-loop μ-loop
+cast-v c = search needs
+
+mul-v : tie.Need-mul-v Inv-loop μ-loop
+mul-v c = search needs
+
+array-read-v : tie.Need-array-read-v Inv-loop μ-loop
+array-read-v c = search needs
+
+octet-requires : tie.Need-octet-requires Inv-loop μ-loop
+octet-requires c κs = search needs
+
+mul-tab : tie.Need-mul-tab Inv-loop μ-loop
+mul-tab c = search needs
+
+array-write-tab : tie.Need-array-write-tab Inv-loop μ-loop
+array-write-tab c = search needs
+
+add-i : tie.Need-add-i Inv-loop μ-loop
+add-i c = search needs
+
+loop-less : tie.Need-loop-less Inv-loop μ-loop
+loop-less c = search needs
+
+loop-again : tie.Need-loop-again Inv-loop μ-loop
+loop-again c =
+    let at = c .before .before .before .loop in
+    filled-more entry 2048 (at .i) (c .octet .result) (at .tab) (at .inv) (c .before .before .loop-test .taken)
+    (c .octet .ensures
+    ∙ ⊎-elim (λ w. ap (steps 8) (w .1) ∙ entry-first (at .i) (w .0 .taken))
+    (λ w. ap (steps 8) (w .1 ∙ at .inv .each (at .i - 256) (omega arith)) ∙ entry-next (at .i) (w .0 .left)) (c .before .if1 .came))
+
+returns : tie.Need-returns Inv-loop μ-loop
+unfolding crcTables
+returns c =
+    let at = c .before .loop in
+    let e : at .i ≡ 2048 = omega (arith, at .inv .within, c .loop-test .left) in
+    filled-all entry 2048 (at .tab) (subst (λ (n : ℕ). Filled entry 2048 n (at .tab)) e (at .inv))
+
+pub tables-spec : {M : Type 1} → statement M
+tables-spec =
+    tie.close
+    (tie.spec
+    Inv-loop
+    μ-loop
+    loop-holds
+    cast-v
+    mul-v
+    array-read-v
+    octet-requires
+    mul-tab
+    array-write-tab
+    add-i
+    loop-less
+    loop-again
+    returns)

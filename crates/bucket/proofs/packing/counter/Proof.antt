@@ -1,0 +1,115 @@
+-- `bucket::packing::counter` meets its contract: the bits of counter i stand in the bytes from `first` up to `last`, at most five, and the number
+-- in these bytes, without the bits behind the counter and those before it, is the counter. Assumes nothing.
+use Prim.Native.Nat.{_+_, _-_, _*_, _/_}
+use native.Mathlib.Nat.{mod-lt, lt-of-lt-of-le}
+use lib.ListN.{length}
+use lib.Pow.{pow-pos, pow-mono}
+use Rattle.bucket.proofs.RoomLaws.{takes-room, room-reach}
+use Rattle.bucket.proofs.WindowLaws.{window-read}
+use native.Mathlib.Omega.{arith}
+use borrow.Author.Needs.{needs}
+use Rattle.bucket.proofs.packing.counter.Statement.{statement}
+use Rattle.bucket.proofs.packing.counter.Tie as tie
+
+mul-from : tie.Need-mul-from
+mul-from c =
+    let s = c .before in
+    let a = s .args in
+    omega (arith, room-reach (a .w) (a .n) (a .at) (length (a .s .now)) (a .i) (s .pre))
+
+add-last : tie.Need-add-last
+add-last c =
+    let s = c .before in
+    let a = s .args in
+    omega (arith, room-reach (a .w) (a .n) (a .at) (length (a .s .now)) (a .i) (s .pre))
+
+add-last-2 : tie.Need-add-last-2
+add-last-2 c =
+    let s = c .before in
+    let a = s .args in
+    omega (arith, room-reach (a .w) (a .n) (a .at) (length (a .s .now)) (a .i) (s .pre))
+
+add-joined-at : tie.Need-add-joined-at
+add-joined-at c =
+    let s = c .before in
+    let a = s .args in
+    omega (arith, room-reach (a .w) (a .n) (a .at) (length (a .s .now)) (a .i) (s .pre))
+
+sub-joined-at : tie.Need-sub-joined-at
+sub-joined-at c = search needs
+
+joined-at-requires : tie.Need-joined-at-requires
+joined-at-requires c κs =
+    let s = c .before in
+    let a = s .args in
+    let r = room-reach (a .w) (a .n) (a .at) (length (a .s .now)) (a .i) (s .pre) in
+    (omega arith, omega arith)
+
+mul-t : tie.Need-mul-t
+mul-t c =
+    let s = c .before .before in
+    let a = s .args in
+    omega (arith, room-reach (a .w) (a .n) (a .at) (length (a .s .now)) (a .i) (s .pre))
+
+sub-t : tie.Need-sub-t
+sub-t c = search needs
+
+sub-t-2 : tie.Need-sub-t-2
+sub-t-2 c = search needs
+
+cast-t : tie.Need-cast-t
+cast-t c = search needs
+
+two-to-requires : tie.Need-two-to-requires
+two-to-requires c κs = search needs
+
+div-result : tie.Need-div-result
+div-result c =
+    let a = c .before .before .before .args in
+    omega (arith, c .two-to .ensures, pow-pos (8 * ((a .w * a .i + a .w + 7) / 8) - a .w * a .i - a .w))
+
+two-to-requires-2 : tie.Need-two-to-requires-2
+two-to-requires-2 c κs =
+    let s = c .before .before .before in
+    let a = s .args in
+    omega (arith, room-reach (a .w) (a .n) (a .at) (length (a .s .now)) (a .i) (s .pre))
+
+rem-result : tie.Need-rem-result
+rem-result c =
+    let a = c .before .before .before .before .args in
+    omega (arith, c .two-to2 .ensures, pow-pos (a .w))
+
+cast-result : tie.Need-cast-result
+cast-result c =
+    let s = c .before .before .before .before in
+    let a = s .args in
+    let r = room-reach (a .w) (a .n) (a .at) (length (a .s .now)) (a .i) (s .pre) in
+    record { fits = rw (c .two-to2 .ensures) (lt-of-lt-of-le (mod-lt _ (pow-pos (a .w))) (pow-mono {i = a .w} {j = 32} (omega arith))) }
+
+returns : tie.Need-returns
+returns c =
+    let s = c .before .before .before .before in
+    let a = s .args in
+    rw (c .before .before .joined-at .ensures, c .before .two-to .ensures, c .two-to2 .ensures)
+    (window-read (a .w) (a .n) (a .at) (a .s .now) (takes-room (a .w) (a .n) (a .at) (length (a .s .now)) (s .pre .0)) (a .i) (s .pre .1))
+
+pub counter-spec : {M : Type 1} → statement M
+counter-spec =
+    tie.close
+    (tie.spec
+    mul-from
+    add-last
+    add-last-2
+    add-joined-at
+    sub-joined-at
+    joined-at-requires
+    mul-t
+    sub-t
+    sub-t-2
+    cast-t
+    two-to-requires
+    div-result
+    two-to-requires-2
+    rem-result
+    cast-result
+    returns)

@@ -1,0 +1,85 @@
+-- `bucket::packing::fits` meets its contract. The invariant: whether all counts fit is whether those from i on do. The measure is what is left of
+-- them. Assumes nothing.
+use mathlib.Core.Path.{sym, ap, _∙_}
+use mathlib.Core.Bool.{Bool, _&&_}
+use Prim.Native.Nat.{_-_}
+use lib.ListN.{length}
+use borrow.Author.Needs.{needs}
+use Rattle.bucket.specs.Packing.{isWidth, hasBits, fitsIn}
+use Rattle.bucket.proofs.NumberLaws.{count-stored, Fitting, fitting-start, fitting-next, fitting-not, fitting-end}
+use Rattle.bucket.proofs.RoomLaws.{width-low, width-high, width-good}
+use Rattle.bucket.proofs.TestLaws.{and-fails, and-holds, test-refused, test-granted}
+use native.Mathlib.Omega.{arith}
+use Rattle.bucket.proofs.packing.fits.Statement.{statement}
+use Rattle.bucket.proofs.packing.fits.Tie as tie
+
+abbrev Inv-loop : tie.InvT-loop
+Inv-loop counts w i₀ i = Fitting w counts i
+
+abbrev μ-loop : tie.MeasureT-loop
+μ-loop counts w i₀ i = length counts - i
+
+returns : tie.Need-returns Inv-loop μ-loop
+returns c =
+    let a = c .before .args in
+    sym (ap (λ (t : Bool). t && fitsIn (a .w) (a .counts .now)) (width-low (a .w) (omega arith)))
+
+returns-2 : tie.Need-returns-2 Inv-loop μ-loop
+returns-2 c =
+    let a = c .before .before .args in
+    sym (ap (λ (t : Bool). t && fitsIn (a .w) (a .counts .now)) (width-high (a .w) (omega arith)))
+
+loop-holds : tie.Need-loop-holds Inv-loop μ-loop
+loop-holds c =
+    let a = c .before .before .args in
+    fitting-start (a .w) (a .counts .now)
+
+mul-has-bits : tie.Need-mul-has-bits Inv-loop μ-loop
+mul-has-bits c = search needs
+
+shared-slice-copy-out-has-bits : tie.Need-shared-slice-copy-out-has-bits Inv-loop μ-loop
+shared-slice-copy-out-has-bits c = search needs
+
+has-bits-requires : tie.Need-has-bits-requires Inv-loop μ-loop
+has-bits-requires c κs = search needs
+
+returns-3 : tie.Need-returns-3 Inv-loop μ-loop
+returns-3 c =
+    let s = c .before .before .before .before .before .before .before in
+    let i = c .before .before .before .before .loop .i in
+    sym (and-fails (isWidth (s .args .w)) (fitting-not (c .before .before .before .before .loop .inv) (omega arith) (test-refused (c .before .has-bits .ensures ∙ ap (hasBits (s .args .w)) (count-stored (s .args .counts .now) i (c .before .before .has-bits-arg .given))) (c .if3 .taken))))
+
+add-i : tie.Need-add-i Inv-loop μ-loop
+add-i c = search needs
+
+loop-less : tie.Need-loop-less Inv-loop μ-loop
+loop-less c = search needs
+
+loop-again : tie.Need-loop-again Inv-loop μ-loop
+loop-again c =
+    let s = c .before .before .before .before .before .before .before in
+    let i = c .before .before .before .before .loop .i in
+    fitting-next (c .before .before .before .before .loop .inv) (omega arith) (test-granted (c .before .has-bits .ensures ∙ ap (hasBits (s .args .w)) (count-stored (s .args .counts .now) i (c .before .before .has-bits-arg .given))) (c .if3 .left))
+
+returns-4 : tie.Need-returns-4 Inv-loop μ-loop
+returns-4 c =
+    let a = c .before .before .before .before .args in
+    sym (and-holds (width-good (a .w) (omega arith) (omega arith)) (fitting-end (c .before .loop .inv) (omega arith)))
+
+pub fits-spec : {M : Type 1} → statement M
+fits-spec =
+    tie.close
+    (tie.spec
+    Inv-loop
+    μ-loop
+    returns
+    returns-2
+    loop-holds
+    mul-has-bits
+    shared-slice-copy-out-has-bits
+    has-bits-requires
+    returns-3
+    add-i
+    loop-less
+    loop-again
+    returns-4)

@@ -1,0 +1,214 @@
+-- `bucket::packing::pack_all` meets its contract. The invariant, `Packing`: of the bits of the first i counts, n whole bytes are written and the rest,
+-- fewer than 40, stand in acc. The measure falls with each count taken and with each byte written. Assumes nothing.
+use mathlib.Core.Path.{_≡_, ap, _∙_}
+use Prim.Native.Nat.{_+_, _-_, _*_}
+use native.Mathlib.Nat.{lt-of-lt-of-le}
+use lib.ListN.{length}
+use lib.Pow.{shl-lt, shr-lt, pow-pos, pow-mono}
+use Rattle.bucket.specs.Packing.{number}
+use Rattle.bucket.proofs.NumberLaws.{count-stored, fits-at}
+use Rattle.bucket.proofs.PackLaws.{Packing, packing-start, packing-small, packing-take, packing-byte, packing-last, packing-whole, packing-room, packing-end}
+use Rattle.bucket.proofs.RoomLaws.{takes-room}
+use native.Mathlib.Omega.{arith}
+use borrow.Author.Needs.{needs}
+use Rattle.bucket.proofs.packing.pack_all.Statement.{statement}
+use Rattle.bucket.proofs.packing.pack_all.Tie as tie
+
+abbrev Inv-loop : tie.InvT-loop
+Inv-loop counts w out₀ at acc₀ have₀ n₀ i₀ out acc have n i = Packing w at counts out₀ out acc have n i
+
+abbrev μ-loop : tie.MeasureT-loop
+μ-loop counts w out₀ at acc₀ have₀ n₀ i₀ out acc have n i = (length counts - i) * 41 + have
+
+loop-holds : tie.Need-loop-holds Inv-loop μ-loop
+loop-holds c =
+    let s = c .before in
+    let a = s .args in
+    packing-start (a .w) (a .at) (a .counts .now) (a .out .now) (takes-room (a .w) (length (a .counts .now)) (a .at) (length (a .out .now)) (s .pre .1))
+
+two-to-requires : tie.Need-two-to-requires Inv-loop μ-loop
+two-to-requires c κs = search needs
+
+div-out : tie.Need-div-out Inv-loop μ-loop
+div-out c =
+    let at = c .before .before .loop in
+    omega (arith, c .two-to .ensures, pow-pos (at .have - 8))
+
+cast-out : tie.Need-cast-out Inv-loop μ-loop
+cast-out c =
+    let at = c .before .before .loop in
+    let left = at .have - 8 in
+    let e : at .have ≡ 8 + left = omega arith in
+    record { fits = rw (c .two-to .ensures) (shr-lt 8 left (rw e at (packing-small (at .inv)))) }
+
+add-out : tie.Need-add-out Inv-loop μ-loop
+add-out c =
+    let at = c .before .before .loop in
+    omega (arith, packing-room (at .inv) (omega arith))
+
+slice-write-out : tie.Need-slice-write-out Inv-loop μ-loop
+slice-write-out c =
+    let at = c .before .before .loop in
+    omega (arith, packing-room (at .inv) (omega arith))
+
+rem-acc : tie.Need-rem-acc Inv-loop μ-loop
+rem-acc c =
+    let at = c .before .before .loop in
+    omega (arith, c .two-to .ensures, pow-pos (at .have - 8))
+
+add-n : tie.Need-add-n Inv-loop μ-loop
+add-n c =
+    let at = c .before .before .loop in
+    omega (arith, packing-room (at .inv) (omega arith))
+
+loop-less : tie.Need-loop-less Inv-loop μ-loop
+loop-less c = search needs
+
+loop-again : tie.Need-loop-again Inv-loop μ-loop
+loop-again c =
+    let at = c .before .before .loop in
+    rw (c .two-to .ensures) (packing-byte (at .inv) (at .have - 8) (omega arith) (packing-room (at .inv) (omega arith)))
+
+two-to-requires-2 : tie.Need-two-to-requires-2 Inv-loop μ-loop
+two-to-requires-2 c κs = search needs
+
+mul-acc : tie.Need-mul-acc Inv-loop μ-loop
+mul-acc c =
+    let at = c .before .before .before .loop in
+    let a = c .before .before .before .before .before .args in
+    record { fits = rw (c .two-to2 .ensures) (lt-of-lt-of-le (shl-lt (at .have) (a .w) (packing-small (at .inv))) (pow-mono {i = at .have + a .w} {j = 64} (omega arith))) }
+
+mul-number-of : tie.Need-mul-number-of Inv-loop μ-loop
+mul-number-of c = search needs
+
+shared-slice-copy-out-number-of : tie.Need-shared-slice-copy-out-number-of Inv-loop μ-loop
+shared-slice-copy-out-number-of c = search needs
+
+number-of-requires : tie.Need-number-of-requires Inv-loop μ-loop
+number-of-requires c κs = search needs
+
+add-acc : tie.Need-add-acc Inv-loop μ-loop
+add-acc c =
+    let at = c .before .before .before .before .before .loop in
+    let s = c .before .before .before .before .before .before .before in
+    let l = s .args .counts .now in
+    let w = s .args .w in
+    let e = c .number-of .ensures ∙ ap number (count-stored l (at .i) (c .before .number-of-arg .given)) in
+    let next = packing-take (at .inv) (omega arith) (omega arith) (fits-at w l (at .i) (s .pre .0) (omega arith)) in
+    record { fits = rw (c .before .before .two-to2 .ensures, e) (lt-of-lt-of-le (packing-small next) (pow-mono {i = at .have + w} {j = 64} (omega arith))) }
+
+add-have : tie.Need-add-have Inv-loop μ-loop
+add-have c = search needs
+
+add-i : tie.Need-add-i Inv-loop μ-loop
+add-i c = search needs
+
+loop-less-2 : tie.Need-loop-less-2 Inv-loop μ-loop
+loop-less-2 c = search needs
+
+loop-again-2 : tie.Need-loop-again-2 Inv-loop μ-loop
+loop-again-2 c =
+    let at = c .before .before .before .before .before .loop in
+    let s = c .before .before .before .before .before .before .before in
+    let l = s .args .counts .now in
+    let w = s .args .w in
+    let e = c .number-of .ensures ∙ ap number (count-stored l (at .i) (c .before .number-of-arg .given)) in
+    let next = packing-take (at .inv) (omega arith) (omega arith) (fits-at w l (at .i) (s .pre .0) (omega arith)) in
+    rw (c .before .before .two-to2 .ensures, e) next
+
+sub-two-to : tie.Need-sub-two-to Inv-loop μ-loop
+sub-two-to c = search needs
+
+two-to-requires-3 : tie.Need-two-to-requires-3 Inv-loop μ-loop
+two-to-requires-3 c κs = search needs
+
+mul-out : tie.Need-mul-out Inv-loop μ-loop
+mul-out c =
+    let at = c .before .before .before .before .loop in
+    record { fits = rw (c .two-to3 .ensures) (lt-of-lt-of-le (shl-lt (at .have) (8 - at .have) (packing-small (at .inv))) (pow-mono {i = at .have + (8 - at .have)} {j = 64} (omega arith))) }
+
+cast-out-2 : tie.Need-cast-out-2 Inv-loop μ-loop
+cast-out-2 c =
+    let at = c .before .before .before .before .loop in
+    record { fits = rw (c .two-to3 .ensures) (lt-of-lt-of-le (shl-lt (at .have) (8 - at .have) (packing-small (at .inv))) (pow-mono {i = at .have + (8 - at .have)} {j = 8} (omega arith))) }
+
+add-out-2 : tie.Need-add-out-2 Inv-loop μ-loop
+add-out-2 c =
+    let at = c .before .before .before .before .loop in
+    omega (arith, packing-room (at .inv) (omega arith))
+
+slice-write-out-2 : tie.Need-slice-write-out-2 Inv-loop μ-loop
+slice-write-out-2 c =
+    let at = c .before .before .before .before .loop in
+    omega (arith, packing-room (at .inv) (omega arith))
+
+add-result : tie.Need-add-result Inv-loop μ-loop
+add-result c =
+    let at = c .before .before .before .before .loop in
+    omega (arith, packing-end (at .inv) (omega arith) (omega arith))
+
+add-result-2 : tie.Need-add-result-2 Inv-loop μ-loop
+add-result-2 c =
+    let at = c .before .before .before .before .loop in
+    omega (arith, packing-end (at .inv) (omega arith) (omega arith))
+
+same-length : tie.Need-same-length Inv-loop μ-loop
+same-length c = search needs
+
+returns : tie.Need-returns Inv-loop μ-loop
+returns c =
+    let at = c .before .before .before .before .loop in
+    (omega (arith, packing-end (at .inv) (omega arith) (omega arith)), rw (c .two-to3 .ensures) (packing-last (at .inv) (omega arith) (omega arith) (omega arith) (packing-room (at .inv) (omega arith)) .laid))
+
+add-result-3 : tie.Need-add-result-3 Inv-loop μ-loop
+add-result-3 c =
+    let at = c .before .before .before .loop in
+    omega (arith, packing-end (at .inv) (omega arith) (omega arith))
+
+same-length-2 : tie.Need-same-length-2 Inv-loop μ-loop
+same-length-2 c = search needs
+
+returns-2 : tie.Need-returns-2 Inv-loop μ-loop
+returns-2 c =
+    let at = c .before .before .before .loop in
+    (omega (arith, packing-end (at .inv) (omega arith) (omega arith)), packing-whole (at .inv) (omega arith) (omega arith) .laid)
+
+pub pack-all-spec : {M : Type 1} → statement M
+pack-all-spec =
+    tie.close
+    (tie.spec
+    Inv-loop
+    μ-loop
+    loop-holds
+    two-to-requires
+    div-out
+    cast-out
+    add-out
+    slice-write-out
+    rem-acc
+    add-n
+    loop-less
+    loop-again
+    two-to-requires-2
+    mul-acc
+    mul-number-of
+    shared-slice-copy-out-number-of
+    number-of-requires
+    add-acc
+    add-have
+    add-i
+    loop-less-2
+    loop-again-2
+    sub-two-to
+    two-to-requires-3
+    mul-out
+    cast-out-2
+    add-out-2
+    slice-write-out-2
+    add-result
+    add-result-2
+    same-length
+    returns
+    add-result-3
+    same-length-2
+    returns-2)

@@ -1,0 +1,96 @@
+-- `bucket::packing::spare_bits` meets its contract: fewer than eight bits are spare, so they stand in the last byte. Assumes nothing.
+use Prim.Native.Nat.{_+_, _-_, _*_, _/_}
+use native.Mathlib.Nat.{mod-lt, lt-of-lt-of-le}
+use lib.ListN.{length}
+use lib.Pow.{pow-pos, pow-mono}
+use Rattle.bucket.proofs.RoomLaws.{takes-room, room-reach}
+use Rattle.bucket.proofs.WindowLaws.{spare-read}
+use native.Mathlib.Omega.{arith}
+use borrow.Author.Needs.{needs}
+use Rattle.bucket.proofs.packing.spare_bits.Statement.{statement}
+use Rattle.bucket.proofs.packing.spare_bits.Tie as tie
+
+mul-bits : tie.Need-mul-bits
+mul-bits c =
+    let s = c .before in
+    let a = s .args in
+    omega (arith, room-reach (a .w) (a .n) (a .at) (length (a .s .now)) 0 (s .pre))
+
+add-bytes : tie.Need-add-bytes
+add-bytes c =
+    let s = c .before in
+    let a = s .args in
+    omega (arith, room-reach (a .w) (a .n) (a .at) (length (a .s .now)) 0 (s .pre))
+
+add-last : tie.Need-add-last
+add-last c =
+    let s = c .before in
+    let a = s .args in
+    omega (arith, room-reach (a .w) (a .n) (a .at) (length (a .s .now)) 0 (s .pre))
+
+sub-last : tie.Need-sub-last
+sub-last c =
+    let s = c .before in
+    let a = s .args in
+    omega (arith, room-reach (a .w) (a .n) (a .at) (length (a .s .now)) 0 (s .pre))
+
+shared-slice-read-last : tie.Need-shared-slice-read-last
+shared-slice-read-last c =
+    let s = c .before .before in
+    let a = s .args in
+    omega (arith, room-reach (a .w) (a .n) (a .at) (length (a .s .now)) 0 (s .pre))
+
+wide-requires : tie.Need-wide-requires
+wide-requires c κs = search needs
+
+mul-two-to : tie.Need-mul-two-to
+mul-two-to c =
+    let s = c .before .before .before in
+    let a = s .args in
+    omega (arith, room-reach (a .w) (a .n) (a .at) (length (a .s .now)) 0 (s .pre))
+
+sub-two-to : tie.Need-sub-two-to
+sub-two-to c = search needs
+
+cast-two-to : tie.Need-cast-two-to
+cast-two-to c = search needs
+
+two-to-requires : tie.Need-two-to-requires
+two-to-requires c κs = search needs
+
+rem-result : tie.Need-rem-result
+rem-result c =
+    let a = c .before .before .before .before .args in
+    omega (arith, c .two-to .ensures, pow-pos (8 * ((a .w * a .n + 7) / 8) - a .w * a .n))
+
+cast-result : tie.Need-cast-result
+cast-result c =
+    let a = c .before .before .before .before .args in
+    let e = 8 * ((a .w * a .n + 7) / 8) - a .w * a .n in
+    record { fits = rw (c .two-to .ensures) (lt-of-lt-of-le (mod-lt _ (pow-pos e)) (pow-mono {i = e} {j = 32} (omega arith))) }
+
+returns : tie.Need-returns
+returns c =
+    let s = c .before .before .before .before in
+    let a = s .args in
+    rw (c .before .wide .ensures, c .two-to .ensures)
+    (spare-read (a .w) (a .n) (a .at) (a .s .now) (takes-room (a .w) (a .n) (a .at) (length (a .s .now)) (s .pre .0)) (s .pre .1)
+    (c .before .before .shared-slice-known2 .given (a .at + (a .w * a .n + 7) / 8 - 1) .fits))
+
+pub spare-bits-spec : {M : Type 1} → statement M
+spare-bits-spec =
+    tie.close
+    (tie.spec
+    mul-bits
+    add-bytes
+    add-last
+    sub-last
+    shared-slice-read-last
+    wide-requires
+    mul-two-to
+    sub-two-to
+    cast-two-to
+    two-to-requires
+    rem-result
+    cast-result
+    returns)

@@ -1,0 +1,67 @@
+// Numbers as bytes, most significant first.
+ghost use mathlib.Core.Path.{_≡_};
+ghost use mathlib.Core.Bool.{_&&_, cond};
+ghost use Prim.Native.Nat.{_+_, _≤_, min};
+ghost use lib.Dec.{leb};
+ghost use lib.ListN.{length};
+ghost use Rattle.bucket.specs.Digits.{joined, groups};
+ghost use Rattle.bucket.specs.Lists.{over, part};
+
+// The number in the k bytes from a position on: of at most eight, and of those that are there.
+pub fn number_at(s: &[u8], at: usize, k: usize) -> u64
+    ensures { λ r. ⌜ r ≡ joined 8 (part at (min 8 k) (now (s .entry))) ⌝ }
+{
+    if s.len() <= at {
+        return 0;
+    }
+    joined_at(s, at, crate::least(crate::least(8, k), s.len() - at))
+}
+
+// The k low bytes of x from a position on. Nothing is written where k is above eight or the bytes do not fit.
+pub fn put_number(s: &mut [u8], at: usize, k: usize, x: u64)
+    ensures { λ _. ⌜ now (s .exit)
+        ≡ cond (leb k 8 && leb (at + k) (length (now (s .entry)))) (over at (groups 8 k x) (now (s .entry))) (now (s .entry)) ⌝ }
+{
+    if 8 < k {
+        return;
+    }
+    if s.len() < k {
+        return;
+    }
+    if s.len() - k < at {
+        return;
+    }
+    put_groups(s, at, k, x);
+}
+
+// The number in k bytes that are there.
+pub(crate) fn joined_at(s: &[u8], at: usize, k: usize) -> u64
+    requires { ⌜ (at + k ≤ length (now s)) × (k ≤ 8) ⌝ }
+    ensures { λ r. ⌜ r ≡ joined 8 (part at k (now (s .entry))) ⌝ }
+{
+    let mut v: u64 = 0;
+    let mut j: usize = 0;
+    while j < k {
+        v = v * 256 + wide(s[at + j]);
+        j += 1;
+    }
+    v
+}
+
+fn put_groups(s: &mut [u8], at: usize, k: usize, x: u64)
+    requires { ⌜ (at + k ≤ length (now s)) × (k ≤ 8) ⌝ }
+    ensures { λ _. ⌜ now (s .exit) ≡ over at (groups 8 k x) (now (s .entry)) ⌝ }
+{
+    let mut j: usize = 0;
+    while j < k {
+        s[at + j] = ((x >> (8 * (k - 1 - j))) % 256) as u8;
+        j += 1;
+    }
+}
+
+// A byte as a number: a function, so that callers owe only the index.
+pub(crate) fn wide(x: u8) -> u64
+    ensures { λ r. ⌜ r ≡ x ⌝ }
+{
+    x as u64
+}

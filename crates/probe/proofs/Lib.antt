@@ -1,0 +1,3 @@
+-- The laws of the crate `probe`.
+pub mod ChainLaws
+pub mod FourLaws
