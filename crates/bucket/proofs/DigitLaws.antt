@@ -4,7 +4,7 @@ use mathlib.Core.Path.{_≡_, refl, sym, ap, ap₂, _∙_, subst}
 use mathlib.Core.Bool.{Bool, true, false, cond}
 use mathlib.Core.List.{List, [], _∷_, _++_}
 use Prim.Native.Nat.{ℕ, zero, suc, _+_, _-_, _*_, _/_, _%_, _^_, _≤_, _<_}
-use native.Mathlib.Nat.{le-of-lt, suc-mul, mul-le-mul-right, mod-lt, mod-eq-of-lt, mod-mod, mul-suc, mul-add, add-comm, add-assoc, add-mul, mul-assoc, mul-comm, zero-add, add-zero, zero-mul, mod-one, div-one, le-of-suc-le-suc, mul-zero, suc-add, div-add-mod, mul-one, div-lt-iff-lt-mul}
+use native.Mathlib.Nat.{le-of-lt, suc-mul, mul-le-mul-right, mod-lt, mod-eq-of-lt, mod-mod, mul-suc, mul-add, add-comm, add-assoc, add-mul, mul-assoc, mul-comm, zero-add, zero-mul, mod-one, div-one, le-of-suc-le-suc, mul-zero, suc-add, div-add-mod, mul-one, div-lt-iff-lt-mul}
 use native.Mathlib.Omega.{arith}
 use lib.Arith.{digits-lt}
 use lib.Dec.{eqb, ltb}

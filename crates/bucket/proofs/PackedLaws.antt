@@ -1,12 +1,12 @@
 -- The laws of packed numbers: packing and unpacking undo each other, and where each bit stands. Assumes nothing.
-use mathlib.Core.Path.{_≡_, refl, sym, ap, ap₂, _∙_}
-use mathlib.Core.List.{List, [], _∷_}
-use Prim.Native.Nat.{ℕ, zero, suc, _+_, _-_, _*_, _/_, _%_, _^_, _≤_, _<_}
+use mathlib.Core.Path.{_≡_, sym, ap, ap₂, _∙_}
+use mathlib.Core.List.{List}
+use Prim.Native.Nat.{ℕ, zero, _+_, _-_, _*_, _/_, _%_, _^_, _≤_, _<_}
 use native.Mathlib.Nat.{mod-eq-of-lt, mul-assoc, add-zero, mul-mod-left}
 use native.Mathlib.Omega.{arith}
-use lib.ListN.{length, getD}
+use lib.ListN.{length}
 use lib.Pow.{pow-add, split, shr-shr, shl-shr, shl-lt, shr-mod}
-use Rattle.bucket.specs.Digits.{joined, groups, bytesFor, spare, packed, unpacked, spareBits, bitAt, Below}
+use Rattle.bucket.specs.Digits.{joined, bytesFor, spare, packed, unpacked, spareBits, bitAt, Below}
 use Rattle.bucket.proofs.DigitLaws.{joined-lt, groups-length, groups-below, groups-joined, joined-groups, joined-bit}
 
 module _ (w : ℕ) where

@@ -144,26 +144,26 @@ module _ (w n at : ℕ) (l : List ℕ) (room : Room w n at (length l)) where
 
 -- what is answered where they are, and where they are not
 module _ (s : List ℕ) (at n w : ℕ) where
-  pub counter-not : (i : ℕ) → takes w n at (length s) ≡ false → 0 ≡ counterAt s at n w i
+  pub counter-not : (i : ℕ) → takes w n at (length s) ≡ false → 0 ≡ counterAt w n at s i
   unfolding counterAt
   counter-not i e = cond-kept (getD (unpacked w n (part at (bytesFor (w * n)) s)) i 0) 0 e
 
-  pub counter-here : (i : ℕ) → takes w n at (length s) ≡ true → getD (unpacked w n (part at (bytesFor (w * n)) s)) i 0 ≡ counterAt s at n w i
+  pub counter-here : (i : ℕ) → takes w n at (length s) ≡ true → getD (unpacked w n (part at (bytesFor (w * n)) s)) i 0 ≡ counterAt w n at s i
   unfolding counterAt
   counter-here i e = cond-made (getD (unpacked w n (part at (bytesFor (w * n)) s)) i 0) 0 e
 
-  pub counter-past : (i : ℕ) → takes w n at (length s) ≡ true → n ≤ i → 0 ≡ counterAt s at n w i
+  pub counter-past : (i : ℕ) → takes w n at (length s) ≡ true → n ≤ i → 0 ≡ counterAt w n at s i
   counter-past i e h =
       sym (List·getD-eq-default (unpacked w n (part at (bytesFor (w * n)) s)) 0 (rw unpacked-length h)) ∙ counter-here i e
 
-  pub bare-not : takes w n at (length s) ≡ false → false ≡ isBare s at n w
+  pub bare-not : takes w n at (length s) ≡ false → false ≡ isBare w n at s
   unfolding isBare
   bare-not e = sym (ap (λ (t : Bool). t && eqb (spareBits w n (part at (bytesFor (w * n)) s)) 0) e)
 
-  pub bare-here : takes w n at (length s) ≡ true → eqb (spareBits w n (part at (bytesFor (w * n)) s)) 0 ≡ isBare s at n w
+  pub bare-here : takes w n at (length s) ≡ true → eqb (spareBits w n (part at (bytesFor (w * n)) s)) 0 ≡ isBare w n at s
   unfolding isBare
   bare-here e = sym (ap (λ (t : Bool). t && eqb (spareBits w n (part at (bytesFor (w * n)) s)) 0) e)
 
-  pub bare-none : takes w n at (length s) ≡ true → n ≡ 0 → true ≡ isBare s at n w
+  pub bare-none : takes w n at (length s) ≡ true → n ≡ 0 → true ≡ isBare w n at s
   unfolding spareBits joined
   bare-none e z = sym (ap (λ (k : ℕ). eqb (spareBits w k (part at (bytesFor (w * k)) s)) 0) z ∙ ap (λ (k : ℕ). eqb (joined 8 (part at (bytesFor k) s) % 2 ^ spare k) 0) (mul-zero w)) ∙ bare-here e

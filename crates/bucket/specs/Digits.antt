@@ -3,6 +3,7 @@
 --
 --   joined w xs         the w low bits of each number of xs, one after the other, as one number
 --   groups w n x        the last n groups of w bits of x, highest first
+--   putInto at k x s    the memory s with k bytes of x written into it
 --   packed w xs         numbers of w bits in bytes (document 01, "Messages": packed counters)
 --   unpacked w n bs     the n numbers of w bits that stand in bytes
 --   spareBits w n bs    what stands in the bits behind them
@@ -11,11 +12,12 @@
 --
 -- Laws (proofs/DigitLaws, PackedLaws): groups-joined, joined-groups, before-joined; unpacked-packed, packed-unpacked, packed-bit, packed-rest.
 -- Assumes nothing.
-use mathlib.Core.Bool.{Bool, false, cond}
+use mathlib.Core.Bool.{Bool, false, _&&_, cond}
 use mathlib.Core.List.{List, [], _∷_}
 use Prim.Native.Nat.{ℕ, zero, suc, _+_, _-_, _*_, _/_, _%_, _^_, _<_}
-use lib.Dec.{eqb, ltb}
+use lib.Dec.{eqb, ltb, leb}
 use lib.ListN.{length, getD}
+use Rattle.bucket.specs.Lists.{over}
 
 unfoldable pub joined : ℕ → List ℕ → ℕ
 joined w [] = 0
@@ -34,6 +36,10 @@ unfoldable pub before : List ℕ → List ℕ → Bool
 before [] ys = false
 before (x ∷ xs) [] = false
 before (x ∷ xs) (y ∷ ys) = cond (eqb x y) (before xs ys) (ltb x y)
+
+-- the memory s with the k low bytes of x written into it from at on; unchanged where k is above eight or they do not fit
+unfoldable pub putInto : ℕ → ℕ → ℕ → List ℕ → List ℕ
+putInto at k x s = cond (leb k 8 && leb (at + k) (length s)) (over at (groups 8 k x) s) s
 
 -- the bytes that n bits take, and the bits left over in them
 abbrev pub bytesFor : ℕ → ℕ

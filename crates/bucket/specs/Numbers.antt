@@ -2,9 +2,8 @@
 -- salting, packing, width, subtraction (after 002), stratum. Assumes nothing.
 use mathlib.Core.Path.{_≡_, refl}
 use mathlib.Core.List.{[], _∷_}
-use Prim.Native.Nat.{ℕ}
 use lib.Count.{trailingZeros, leadingZeros}
-use lib.IntN.{pos, negsuc, negℤ}
+use lib.IntN.{pos, negsuc}
 use Rattle.bucket.specs.Digits.{joined, groups, packed}
 use Rattle.bucket.specs.Salt.{rot, salted}
 use Rattle.bucket.specs.Counts.{stratumOf, widthOf}

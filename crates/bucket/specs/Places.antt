@@ -10,7 +10,7 @@
 -- The code draws by lent tables, so its contract is over `nextBy` of those; with the right tables that is `places` (places-by-tables).
 -- Laws (proofs/PlaceLaws): places-count, places-distinct, places-below, places-by-tables.
 -- Assumes nothing.
-use mathlib.Core.Bool.{Bool, true, false, _||_, cond}
+use mathlib.Core.Bool.{_||_, cond}
 use mathlib.Core.List.{List, [], _∷_, _++_}
 use Prim.Native.Nat.{ℕ, zero, suc, _+_, _-_, _*_, _%_, _^_}
 use lib.Dec.{ltb, leb, eqb}

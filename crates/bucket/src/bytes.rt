@@ -1,10 +1,8 @@
 // Numbers as bytes, most significant first.
 ghost use mathlib.Core.Path.{_≡_};
-ghost use mathlib.Core.Bool.{_&&_, cond};
 ghost use Prim.Native.Nat.{_+_, _≤_, min};
-ghost use lib.Dec.{leb};
 ghost use lib.ListN.{length};
-ghost use Rattle.bucket.specs.Digits.{joined, groups};
+ghost use Rattle.bucket.specs.Digits.{joined, groups, putInto};
 ghost use Rattle.bucket.specs.Lists.{over, part};
 
 // The number in the k bytes from a position on: of at most eight, and of those that are there.
@@ -19,8 +17,7 @@ pub fn number_at(s: &[u8], at: usize, k: usize) -> u64
 
 // The k low bytes of x from a position on. Nothing is written where k is above eight or the bytes do not fit.
 pub fn put_number(s: &mut [u8], at: usize, k: usize, x: u64)
-    ensures { λ _. ⌜ now (s .exit)
-        ≡ cond (leb k 8 && leb (at + k) (length (now (s .entry)))) (over at (groups 8 k x) (now (s .entry))) (now (s .entry)) ⌝ }
+    ensures { λ _. ⌜ now (s .exit) ≡ putInto at k x (now (s .entry)) ⌝ }
 {
     if 8 < k {
         return;
@@ -35,7 +32,7 @@ pub fn put_number(s: &mut [u8], at: usize, k: usize, x: u64)
 }
 
 // The number in k bytes that are there.
-pub(crate) fn joined_at(s: &[u8], at: usize, k: usize) -> u64
+fn joined_at(s: &[u8], at: usize, k: usize) -> u64
     requires { ⌜ (at + k ≤ length (now s)) × (k ≤ 8) ⌝ }
     ensures { λ r. ⌜ r ≡ joined 8 (part at k (now (s .entry))) ⌝ }
 {

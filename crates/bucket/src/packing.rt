@@ -1,14 +1,13 @@
 // Counters of a width of 1 to 32 bits in bytes, highest bit first, spare low bits zero.
 ghost use mathlib.Core.Path.{_≡_};
-ghost use mathlib.Core.Bool.{_&&_, cond, true};
+ghost use mathlib.Core.Bool.{_&&_, true};
 ghost use mathlib.Core.List.{map};
 ghost use Prim.Native.Nat.{_+_, _*_, _≤_, _<_, _^_};
-ghost use lib.Dec.{leb};
 ghost use lib.IntN.{pos};
 ghost use lib.ListN.{length, getD};
-ghost use Rattle.bucket.specs.Digits.{bytesFor, packed, unpacked, spareBits};
+ghost use Rattle.bucket.specs.Digits.{bytesFor, packed, spareBits};
 ghost use Rattle.bucket.specs.Lists.{over, part};
-ghost use Rattle.bucket.specs.Packing.{number, numbers, hasBits, fitsIn, isWidth, takes, counterAt, isBare};
+ghost use Rattle.bucket.specs.Packing.{number, numbers, hasBits, fitsIn, isWidth, takes, packInto, packEnd, countersAt, counterAt, isBare, unpacks, unpackInto};
 
 // Whether each count is a number of w bits, for a width of 1 to 32.
 pub fn fits(counts: &[i64], w: u32) -> bool
@@ -33,10 +32,8 @@ pub fn fits(counts: &[i64], w: u32) -> bool
 // The counts packed at width w from a position on; answers the position behind them. Nothing is written, and the position
 // is the same, where the width is not 1 to 32, a count does not fit it, they are more than 65,536, or the bytes do not fit.
 pub fn pack(counts: &[i64], w: u32, out: &mut [u8], at: usize) -> usize
-    ensures { λ r. ⌜ (r ≡ cond (fitsIn w (now (counts .entry)) && takes w (length (now (counts .entry))) at (length (now (out .entry))))
-        (at + bytesFor (w * length (now (counts .entry)))) at)
-        × (now (out .exit) ≡ cond (fitsIn w (now (counts .entry)) && takes w (length (now (counts .entry))) at (length (now (out .entry))))
-        (over at (packed w (numbers (now (counts .entry)))) (now (out .entry))) (now (out .entry))) ⌝ }
+    ensures { λ r. ⌜ (r ≡ packEnd w (now (counts .entry)) at (now (out .entry)))
+        × (now (out .exit) ≡ packInto w (now (counts .entry)) at (now (out .entry))) ⌝ }
 {
     if !takes_room(w, counts.len(), at, out.len()) {
         return at;
@@ -49,7 +46,7 @@ pub fn pack(counts: &[i64], w: u32, out: &mut [u8], at: usize) -> usize
 
 // Counter i of n that stand packed at width w from a position on; 0 where n such counters do not, or i is past them.
 pub fn counter_at(s: &[u8], at: usize, n: usize, w: u32, i: usize) -> u32
-    ensures { λ r. ⌜ r ≡ counterAt (now (s .entry)) at n w i ⌝ }
+    ensures { λ r. ⌜ r ≡ counterAt w n at (now (s .entry)) i ⌝ }
 {
     if !takes_room(w, n, at, s.len()) {
         return 0;
@@ -62,7 +59,7 @@ pub fn counter_at(s: &[u8], at: usize, n: usize, w: u32, i: usize) -> u32
 
 // Whether n counters stand packed at width w from a position on, with zeros in the spare bits behind them.
 pub fn spare_is_zero(s: &[u8], at: usize, n: usize, w: u32) -> bool
-    ensures { λ r. ⌜ r ≡ isBare (now (s .entry)) at n w ⌝ }
+    ensures { λ r. ⌜ r ≡ isBare w n at (now (s .entry)) ⌝ }
 {
     if !takes_room(w, n, at, s.len()) {
         return false;
@@ -76,9 +73,8 @@ pub fn spare_is_zero(s: &[u8], at: usize, n: usize, w: u32) -> bool
 // The n counters that stand packed from a position on, laid into a column from another. Answers whether they were:
 // otherwise, where n such counters or the room for them are not there, nothing is written.
 pub fn unpack(s: &[u8], at: usize, n: usize, w: u32, counts: &mut [i64], from: usize) -> bool
-    ensures { λ r. ⌜ (r ≡ takes w n at (length (now (s .entry))) && leb (from + n) (length (now (counts .entry))))
-        × (now (counts .exit) ≡ cond (takes w n at (length (now (s .entry))) && leb (from + n) (length (now (counts .entry))))
-        (over from (map pos (unpacked w n (part at (bytesFor (w * n)) (now (s .entry))))) (now (counts .entry))) (now (counts .entry))) ⌝ }
+    ensures { λ r. ⌜ (r ≡ unpacks w n at (now (s .entry)) from (now (counts .entry)))
+        × (now (counts .exit) ≡ unpackInto w n at (now (s .entry)) from (now (counts .entry))) ⌝ }
 {
     if !takes_room(w, n, at, s.len()) {
         return false;
@@ -127,7 +123,7 @@ fn pack_all(counts: &[i64], w: u32, out: &mut [u8], at: usize) -> usize
 
 fn unpack_all(s: &[u8], at: usize, n: usize, w: u32, counts: &mut [i64], from: usize)
     requires { ⌜ (takes w n at (length (now s)) ≡ true) × (from + n ≤ length (now counts)) ⌝ }
-    ensures { λ _. ⌜ now (counts .exit) ≡ over from (map pos (unpacked w n (part at (bytesFor (w * n)) (now (s .entry))))) (now (counts .entry)) ⌝ }
+    ensures { λ _. ⌜ now (counts .exit) ≡ over from (map pos (countersAt w n at (now (s .entry)))) (now (counts .entry)) ⌝ }
 {
     let mut i: usize = 0;
     while i < n {
@@ -139,13 +135,13 @@ fn unpack_all(s: &[u8], at: usize, n: usize, w: u32, counts: &mut [i64], from: u
 // The few bytes that counter i stands in, as one number, and its bits out of that.
 fn counter(s: &[u8], at: usize, n: usize, w: u32, i: usize) -> u32
     requires { ⌜ (takes w n at (length (now s)) ≡ true) × (i < n) ⌝ }
-    ensures { λ r. ⌜ r ≡ getD (unpacked w n (part at (bytesFor (w * n)) (now (s .entry)))) i 0 ⌝ }
+    ensures { λ r. ⌜ r ≡ getD (countersAt w n at (now (s .entry))) i 0 ⌝ }
 {
     let bits = w as usize;
     let from = bits * i;
     let first = from / 8;
     let last = (from + bits + 7) / 8;
-    let v = crate::bytes::joined_at(s, at + first, last - first);
+    let v = crate::bytes::number_at(s, at + first, last - first);
     let t = (8 * last - from - bits) as u32;
     (v / two_to(t) % two_to(w)) as u32
 }

@@ -12,8 +12,8 @@ pub fn salt(x: u64, t: u32) -> u64
 pub fn unsalt(x: u64, t: u32) -> u64
     ensures { λ r. ⌜ r ≡ unsalted t x ⌝ }
 {
-    let s = t % 64 * 7 % 64;
-    if s == 0 { x } else { rotated(x, 64 - s) }
+    let turn = t % 64 * 7 % 64;
+    if turn == 0 { x } else { rotated(x, 64 - turn) }
 }
 
 // No shift by 64 where s is 0.

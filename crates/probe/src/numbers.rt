@@ -1,14 +1,11 @@
 // CRC-32, salting, strata, widths and numbers as bytes.
 ghost use mathlib.Core.Path.{_≡_};
-ghost use mathlib.Core.Bool.{_&&_, cond};
-ghost use Prim.Native.Nat.{_+_, min};
-ghost use lib.Dec.{leb};
-ghost use lib.ListN.{length};
+ghost use Prim.Native.Nat.{min};
 ghost use Rattle.bucket.specs.Crc.{crc32, crcOf};
 ghost use Rattle.bucket.specs.Salt.{salted, unsalted};
 ghost use Rattle.bucket.specs.Counts.{stratumOf, widthOf};
-ghost use Rattle.bucket.specs.Digits.{joined, groups};
-ghost use Rattle.bucket.specs.Lists.{over, part};
+ghost use Rattle.bucket.specs.Digits.{joined, putInto};
+ghost use Rattle.bucket.specs.Lists.{part};
 
 #[no_mangle]
 pub extern "C" fn tandawire_crc_bytes(s: &[u8]) -> u32
@@ -69,8 +66,7 @@ pub extern "C" fn tandawire_number_at(s: &[u8], at: usize, k: usize) -> u64
 
 #[no_mangle]
 pub extern "C" fn tandawire_put_number(s: &mut [u8], at: usize, k: usize, x: u64)
-    ensures { λ _. ⌜ now (s .exit)
-        ≡ cond (leb k 8 && leb (at + k) (length (now (s .entry)))) (over at (groups 8 k x) (now (s .entry))) (now (s .entry)) ⌝ }
+    ensures { λ _. ⌜ now (s .exit) ≡ putInto at k x (now (s .entry)) ⌝ }
 {
     bucket::bytes::put_number(s, at, k, x);
 }

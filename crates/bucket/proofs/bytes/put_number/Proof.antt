@@ -5,6 +5,7 @@ use Prim.Native.Nat.{_+_}
 use lib.Dec.{leb}
 use lib.ListN.{length}
 use borrow.Author.Tests.{le-leb, lt-leb}
+use Rattle.bucket.specs.Digits.{putInto}
 use Rattle.bucket.proofs.TestLaws.{and-fails, and-holds, cond-kept, cond-made}
 use native.Mathlib.Omega.{arith}
 use borrow.Author.Needs.{needs}
@@ -12,11 +13,13 @@ use Rattle.bucket.proofs.bytes.put_number.Statement.{statement}
 use Rattle.bucket.proofs.bytes.put_number.Tie as tie
 
 returns : tie.Need-returns
+unfolding putInto
 returns c =
     let a = c .before .before .args in
     cond-kept _ _ (ap (λ (t : Bool). t && leb (a .at + a .k) (length (a .s .now))) (lt-leb (a .k) 8 (omega arith)))
 
 returns-2 : tie.Need-returns-2
+unfolding putInto
 returns-2 c =
     let a = c .before .before .before .args in
     cond-kept _ _ (and-fails (leb (a .k) 8) (lt-leb (a .at + a .k) (length (a .s .now)) (omega arith)))
@@ -25,6 +28,7 @@ sub-if3 : tie.Need-sub-if3
 sub-if3 c = search needs
 
 returns-3 : tie.Need-returns-3
+unfolding putInto
 returns-3 c =
     let a = c .before .before .before .before .args in
     cond-kept _ _ (and-fails (leb (a .k) 8) (lt-leb (a .at + a .k) (length (a .s .now)) (omega arith)))
@@ -36,6 +40,7 @@ same-length : tie.Need-same-length
 same-length c = search needs
 
 returns-4 : tie.Need-returns-4
+unfolding putInto
 returns-4 c =
     let a = c .before .before .before .before .before .before .before .before .args in
     c .before .before .put-groups .ensures ∙ cond-made _ _ (and-holds (le-leb (a .k) 8 (omega arith)) (le-leb (a .at + a .k) (length (a .s .now)) (omega arith)))

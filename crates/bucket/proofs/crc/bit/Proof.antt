@@ -1,7 +1,7 @@
 -- `bucket::crc::bit` meets its contract: the two arms are the two cases of `fold`.
 -- Assumes nothing.
 use mathlib.Core.Path.{_≡_}
-use Prim.Native.Nat.{ℕ, _%_}
+use Prim.Native.Nat.{_%_}
 use native.Mathlib.Omega.{arith}
 use Rattle.bucket.proofs.crc.bit.Statement.{statement}
 use Rattle.bucket.proofs.crc.bit.Tie as tie

@@ -1,7 +1,7 @@
 -- `bucket::crc::crc` meets its contract: the bytes that are left, fed from `c`, give what all eight give from the start.
 -- Assumes nothing.
 use mathlib.Core.Path.{_≡_, refl}
-use Prim.Native.Nat.{ℕ, suc, _-_, _≤_}
+use Prim.Native.Nat.{suc, _-_, _≤_}
 use native.Mathlib.Omega.{arith}
 use borrow.Author.Needs.{needs}
 use Rattle.bucket.specs.Crc.{crcOf, crc32, feed}

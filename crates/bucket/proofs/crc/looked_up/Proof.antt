@@ -1,7 +1,7 @@
 -- `bucket::crc::looked_up` meets its contract: the bytes that are left, looked up from c, give what all n give from the start.
 -- Assumes nothing.
 use mathlib.Core.Path.{_≡_, refl, sym, _∙_}
-use Prim.Native.Nat.{ℕ, _≤_}
+use Prim.Native.Nat.{_≤_}
 use native.Mathlib.Omega.{arith}
 use borrow.Author.Needs.{needs}
 use Rattle.bucket.specs.Crc.{lookedUp}

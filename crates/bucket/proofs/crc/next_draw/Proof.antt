@@ -1,6 +1,5 @@
 -- `bucket::crc::next_draw` meets its contract: the four bytes of d are looked up from row 4, and the lowest of i in row 0. Assumes nothing.
 use mathlib.Core.Path.{ap, _∙_}
-use Prim.Native.Nat.{ℕ}
 use borrow.Author.Needs.{needs}
 use Rattle.bucket.specs.Crc.{lookedUp, nextBy}
 use Rattle.bucket.proofs.crc.next_draw.Statement.{statement}

@@ -1,7 +1,7 @@
 -- `bucket::crc::octet` meets its contract: what is left to do of the eight steps, done from `v`, gives the eight steps from `c`.
 -- Assumes nothing.
 use mathlib.Core.Path.{_≡_, refl}
-use Prim.Native.Nat.{ℕ, suc, _+_, _-_, _≤_}
+use Prim.Native.Nat.{suc, _+_, _-_, _≤_}
 use native.Mathlib.Omega.{arith}
 use borrow.Author.Needs.{needs}
 use Rattle.bucket.specs.Crc.{steps}

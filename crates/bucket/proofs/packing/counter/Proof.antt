@@ -1,6 +1,7 @@
 -- `bucket::packing::counter` meets its contract: the bits of counter i stand in the bytes from `first` up to `last`, at most five, and the number
 -- in these bytes, without the bits behind the counter and those before it, is the counter. Assumes nothing.
-use Prim.Native.Nat.{_+_, _-_, _*_, _/_}
+use mathlib.Core.Path.{_≡_}
+use Prim.Native.Nat.{_+_, _-_, _*_, _/_, min}
 use native.Mathlib.Nat.{mod-lt, lt-of-lt-of-le}
 use lib.ListN.{length}
 use lib.Pow.{pow-pos, pow-mono}
@@ -29,21 +30,17 @@ add-last-2 c =
     let a = s .args in
     omega (arith, room-reach (a .w) (a .n) (a .at) (length (a .s .now)) (a .i) (s .pre))
 
-add-joined-at : tie.Need-add-joined-at
-add-joined-at c =
+add-number-at : tie.Need-add-number-at
+add-number-at c =
     let s = c .before in
     let a = s .args in
     omega (arith, room-reach (a .w) (a .n) (a .at) (length (a .s .now)) (a .i) (s .pre))
 
-sub-joined-at : tie.Need-sub-joined-at
-sub-joined-at c = search needs
+sub-number-at : tie.Need-sub-number-at
+sub-number-at c = search needs
 
-joined-at-requires : tie.Need-joined-at-requires
-joined-at-requires c κs =
-    let s = c .before in
-    let a = s .args in
-    let r = room-reach (a .w) (a .n) (a .at) (length (a .s .now)) (a .i) (s .pre) in
-    (omega arith, omega arith)
+number-at-requires : tie.Need-number-at-requires
+number-at-requires c κs = search needs
 
 mul-t : tie.Need-mul-t
 mul-t c =
@@ -90,7 +87,9 @@ returns : tie.Need-returns
 returns c =
     let s = c .before .before .before .before in
     let a = s .args in
-    rw (c .before .before .joined-at .ensures, c .before .two-to .ensures, c .two-to2 .ensures)
+    let n = (a .w * a .i + a .w + 7) / 8 - a .w * a .i / 8 in
+    let few : min 8 n ≡ n = omega (arith, room-reach (a .w) (a .n) (a .at) (length (a .s .now)) (a .i) (s .pre)) in
+    rw (c .before .before .number-at .ensures, few, c .before .two-to .ensures, c .two-to2 .ensures)
     (window-read (a .w) (a .n) (a .at) (a .s .now) (takes-room (a .w) (a .n) (a .at) (length (a .s .now)) (s .pre .0)) (a .i) (s .pre .1))
 
 pub counter-spec : {M : Type 1} → statement M
@@ -100,9 +99,9 @@ counter-spec =
     mul-from
     add-last
     add-last-2
-    add-joined-at
-    sub-joined-at
-    joined-at-requires
+    add-number-at
+    sub-number-at
+    number-at-requires
     mul-t
     sub-t
     sub-t-2

@@ -2,7 +2,7 @@
 use mathlib.Core.Path.{ap, _∙_}
 use mathlib.Core.Bool.{Bool, _&&_}
 use lib.ListN.{length}
-use Rattle.bucket.specs.Packing.{fitsIn, takes}
+use Rattle.bucket.specs.Packing.{fitsIn, takes, packInto, packEnd}
 use Rattle.bucket.proofs.RoomLaws.{takes-fits}
 use Rattle.bucket.proofs.TestLaws.{and-fails, and-holds, cond-kept, cond-made, test-refused, test-granted}
 use borrow.Author.Needs.{needs}
@@ -13,6 +13,7 @@ takes-room-requires : tie.Need-takes-room-requires
 takes-room-requires c κs = search needs
 
 returns : tie.Need-returns
+unfolding packInto packEnd
 returns c =
     let a = c .before .before .before .args in
     let no = and-fails (fitsIn (a .w) (a .counts .now)) (test-refused (c .before .takes-room .ensures) (c .if1 .taken)) in
@@ -22,6 +23,7 @@ fits-requires : tie.Need-fits-requires
 fits-requires c κs = search needs
 
 returns-2 : tie.Need-returns-2
+unfolding packInto packEnd
 returns-2 c =
     let a = c .before .before .before .before .before .args in
     let n = length (a .counts .now) in
@@ -40,6 +42,7 @@ same-length : tie.Need-same-length
 same-length c = search needs
 
 returns-3 : tie.Need-returns-3
+unfolding packInto packEnd
 returns-3 c =
     let a = c .before .before .before .before .before .before .before .before .before .args in
     let there = test-granted (c .before .before .before .before .before .before .before .takes-room .ensures) (c .before .before .before .before .before .before .if1 .left) in

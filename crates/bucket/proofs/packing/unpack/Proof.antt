@@ -5,7 +5,7 @@ use Prim.Native.Nat.{_+_}
 use lib.Dec.{leb}
 use lib.ListN.{length}
 use borrow.Author.Tests.{le-leb, lt-leb}
-use Rattle.bucket.specs.Packing.{takes}
+use Rattle.bucket.specs.Packing.{takes, unpackInto}
 use Rattle.bucket.proofs.TestLaws.{and-fails, and-holds, cond-kept, cond-made, test-refused, test-granted}
 use native.Mathlib.Omega.{arith}
 use borrow.Author.Needs.{needs}
@@ -16,12 +16,14 @@ takes-room-requires : tie.Need-takes-room-requires
 takes-room-requires c κs = search needs
 
 returns : tie.Need-returns
+unfolding unpackInto
 returns c =
     let a = c .before .before .before .args in
     let no = ap (λ (t : Bool). t && leb (a .from + a .n) (length (a .counts .now))) (test-refused (c .before .takes-room .ensures) (c .if1 .taken)) in
     (sym no, cond-kept _ _ no)
 
 returns-2 : tie.Need-returns-2
+unfolding unpackInto
 returns-2 c =
     let a = c .before .before .before .before .args in
     let no = and-fails (takes (a .w) (a .n) (a .at) (length (a .s .now))) (lt-leb (a .from + a .n) (length (a .counts .now)) (omega arith)) in
@@ -31,6 +33,7 @@ sub-if3 : tie.Need-sub-if3
 sub-if3 c = search needs
 
 returns-3 : tie.Need-returns-3
+unfolding unpackInto
 returns-3 c =
     let a = c .before .before .before .before .before .args in
     let no = and-fails (takes (a .w) (a .n) (a .at) (length (a .s .now))) (lt-leb (a .from + a .n) (length (a .counts .now)) (omega arith)) in
@@ -43,6 +46,7 @@ same-length : tie.Need-same-length
 same-length c = search needs
 
 returns-4 : tie.Need-returns-4
+unfolding unpackInto
 returns-4 c =
     let a = c .before .before .before .before .before .before .before .before .args in
     let yes = and-holds (test-granted (c .before .before .before .before .before .before .takes-room .ensures) (c .before .before .before .before .before .if1 .left)) (le-leb (a .from + a .n) (length (a .counts .now)) (omega arith)) in

@@ -1,8 +1,7 @@
 -- `bucket::places::places` meets its contract: where no place is asked for, or there is no bucket, there are none, and otherwise `found` finds them.
 -- Assumes nothing.
-use mathlib.Core.Path.{_≡_, sym, ap, _∙_}
+use mathlib.Core.Path.{sym, ap, _∙_}
 use Prim.Native.Nat.{ℕ, min}
-use native.Mathlib.Omega.{arith}
 use borrow.Author.Needs.{needs}
 use Rattle.bucket.specs.Crc.{nextBy}
 use Rattle.bucket.specs.Lists.{pad}

@@ -11,8 +11,8 @@ use Rattle.bucket.proofs.salting.unsalt.Tie as tie
 -- `bucket::salting::unsalt` meets its contract.
 -- Assumes nothing.
 
-mul-s : tie.Need-mul-s
-mul-s c = search needs
+mul-turn : tie.Need-mul-turn
+mul-turn c = search needs
 
 sub-rotated : tie.Need-sub-rotated
 sub-rotated c = search needs
@@ -31,4 +31,4 @@ unfolding unsalted
 returns-2 c = c .rotated .ensures ∙ sym (unsalted-mod (c .before .before .args .t) (c .before .before .args .x))
 
 pub unsalt-spec : {M : Type 1} → statement M
-unsalt-spec = tie.close (tie.spec mul-s sub-rotated rotated-requires returns returns-2)
+unsalt-spec = tie.close (tie.spec mul-turn sub-rotated rotated-requires returns returns-2)

@@ -1,5 +1,5 @@
 -- `probe::places::tandawire_looks_pure` meets its contract: the tables are the CRC's, and the count is passed on as its bits. Assumes nothing.
-use mathlib.Core.Path.{_≡_, ap, _∙_}
+use mathlib.Core.Path.{ap, _∙_}
 use mathlib.Core.List.{List}
 use Prim.Native.Nat.{ℕ, min}
 use borrow.Author.Needs.{needs}

@@ -1,5 +1,5 @@
 -- `probe::places::tandawire_places` meets its contract: the tables are the CRC's, and four stores write the four places. Assumes nothing.
-use mathlib.Core.Path.{_≡_, sym, ap, _∙_}
+use mathlib.Core.Path.{_≡_, ap, _∙_}
 use mathlib.Core.List.{List}
 use Prim.Native.Nat.{ℕ, min}
 use native.Mathlib.Omega.{arith}
