@@ -8,6 +8,7 @@ pub mod RoomLaws
 pub mod NumberLaws
 pub mod PackLaws
 pub mod WindowLaws
+pub mod RoundLaws
 pub mod XorLaws
 pub mod CrcLaws
 pub mod TableLaws
