@@ -3,6 +3,7 @@
  *   bench          the table
  *   bench NAME N   one loop once, n = N, and its result (for counting instructions)
  *   bench names    the names, one a line
+ *   bench check    only whether the library and the C end their chains in the same number
  *
  * Each loop is a chain: a call needs the answer of the one before, so none can be skipped or
  * run beside another. Tables are made once a loop, in the library's loops and in those here.
@@ -69,6 +70,18 @@ static uint32_t crc_by_eight_tables(uint64_t x)
              table[1][x >> 8 & 0xFF] ^ table[0][x & 0xFF]);
 }
 
+/* The same of draw and i below 256: three bytes are zero, and so are their entries. */
+static uint32_t draw_by_five_lookups(uint32_t draw, uint32_t i)
+{
+    return 0x6522DF69u ^ table[7][draw >> 24] ^ table[6][draw >> 16 & 0xFF] ^
+           table[5][draw >> 8 & 0xFF] ^ table[4][draw & 0xFF] ^ table[0][i];
+}
+
+static uint32_t draw_by_eight_lookups(uint32_t draw, uint32_t i)
+{
+    return crc_by_eight_tables((uint64_t)draw << 32 | i);
+}
+
 static int taken(const uint32_t *out, size_t found, uint32_t place)
 {
     for (size_t i = 0; i < found; i++)
@@ -78,7 +91,8 @@ static int taken(const uint32_t *out, size_t found, uint32_t place)
 }
 
 /* The first distinct remainders of draws 0 to 63; the lowest buckets make up what lacks. */
-static void places(uint32_t draw, uint32_t size, size_t k, uint32_t out[MOST])
+static inline void places(uint32_t next(uint32_t, uint32_t), uint32_t draw, uint32_t size,
+                          size_t k, uint32_t out[MOST])
 {
     size_t wanted = k < MOST ? k : MOST, found = 0;
     if (wanted > size)
@@ -86,7 +100,7 @@ static void places(uint32_t draw, uint32_t size, size_t k, uint32_t out[MOST])
     memset(out, 0, MOST * sizeof out[0]);
     for (uint32_t i = 0; i < DRAWS && found < wanted; i++) {
         if (i > 0)
-            draw = crc_by_eight_tables((uint64_t)draw << 32 | (i - 1));
+            draw = next(draw, i - 1);
         uint32_t place = draw % size;
         if (!taken(out, found, place))
             out[found++] = place;
@@ -100,7 +114,7 @@ static void places(uint32_t draw, uint32_t size, size_t k, uint32_t out[MOST])
 
 static uint32_t c_crc_by_bits(uint32_t n)
 {
-    uint32_t x = 0;
+    uint32_t x = 1;
     for (uint32_t i = 0; i < n; i++)
         x = crc_by_bits((uint64_t)x << 32 | i);
     return x;
@@ -108,7 +122,7 @@ static uint32_t c_crc_by_bits(uint32_t n)
 
 static uint32_t c_crc_by_one_table(uint32_t n)
 {
-    uint32_t x = 0;
+    uint32_t x = 1;
     make_tables(1);
     for (uint32_t i = 0; i < n; i++)
         x = crc_by_one_table((uint64_t)x << 32 | i);
@@ -117,26 +131,34 @@ static uint32_t c_crc_by_one_table(uint32_t n)
 
 static uint32_t c_crc_by_tables(uint32_t n)
 {
-    uint32_t x = 0;
+    uint32_t x = 1;
     make_tables(8);
     for (uint32_t i = 0; i < n; i++)
         x = crc_by_eight_tables((uint64_t)x << 32 | i);
     return x;
 }
 
-/* Draw 0 is given: it is mixed from the places before, so all of them are needed. */
-static uint32_t c_places(uint32_t n)
+/* Draw 0 is given: a stride on from the one before, with its places mixed in. */
+static inline uint32_t c_places(uint32_t next(uint32_t, uint32_t), uint32_t n)
 {
-    uint32_t x = 0, size = filter_size, out[MOST];
+    uint32_t x = 1, size = filter_size, out[MOST];
     size_t k = place_number;
     make_tables(8);
     for (uint32_t i = 0; i < n; i++) {
-        places(x, size, k, out);
-        x += i;
-        for (int j = 0; j < MOST; j++)
-            x = x * 0x9E3779B1u ^ out[j];
+        places(next, x, size, k, out);
+        x = (x + 0x9E3779B9u) ^ ((out[0] ^ out[1]) ^ (out[2] ^ out[3]));
     }
     return x;
+}
+
+static uint32_t c_places_by_five(uint32_t n)
+{
+    return c_places(draw_by_five_lookups, n);
+}
+
+static uint32_t c_places_by_eight(uint32_t n)
+{
+    return c_places(draw_by_eight_lookups, n);
 }
 
 static uint32_t library_places(uint32_t n)
@@ -154,7 +176,8 @@ static const struct loop {
     {"crc_by_tables", "library, CRC by eight tables", tandawire_bench_crc_by_tables},
     {"c_crc_by_tables", "C,       CRC by eight tables", c_crc_by_tables},
     {"places", "library, three places at size 1000", library_places},
-    {"c_places", "C,       three places at size 1000", c_places},
+    {"c_places_by_five", "C,       the same, five lookups", c_places_by_five},
+    {"c_places_by_eight", "C,       the same, eight lookups", c_places_by_eight},
 };
 enum { LOOPS = sizeof loops / sizeof loops[0] };
 
@@ -171,12 +194,21 @@ static int baselines_are_right(void)
         if (crc_by_one_table(given[i]) != crc || crc_by_eight_tables(given[i]) != crc)
             return 0;
     }
-    places(crc_by_bits(0x0101010101010101u), 37, 3, out);
+    places(draw_by_five_lookups, crc_by_bits(0x0101010101010101u), 37, 3, out);
     if (out[0] != 20 || out[1] != 19 || out[2] != 13 || out[3] != 0)
         return 0;
     /* 64 draws of this one miss bucket 2 of four. */
-    places(0x1FA5D1F9u, 4, 4, out);
+    places(draw_by_eight_lookups, 0x1FA5D1F9u, 4, 4, out);
     return out[3] == 2;
+}
+
+/* The library and the C run the same chains, so they must end in the same number. */
+static int loops_agree(void)
+{
+    const uint32_t n = 5000, crc = c_crc_by_bits(n), mixed = c_places_by_eight(n);
+    return tandawire_bench_crc(n) == crc && tandawire_bench_crc_by_tables(n) == crc &&
+           c_crc_by_one_table(n) == crc && c_crc_by_tables(n) == crc &&
+           library_places(n) == mixed && c_places_by_five(n) == mixed;
 }
 
 static volatile uint32_t sink;
@@ -211,6 +243,12 @@ int main(int argc, char **argv)
         puts("bench: the C baselines are wrong");
         return 1;
     }
+    if ((argc == 1 || (argc == 2 && strcmp(argv[1], "check") == 0)) && !loops_agree()) {
+        puts("bench: the library and the C baselines do not agree");
+        return 1;
+    }
+    if (argc == 2 && strcmp(argv[1], "check") == 0)
+        return 0;
     if (argc == 1) {
         printf("%-36s %10s %12s\n", "", "ns a call", "calls");
         for (int i = 0; i < LOOPS; i++)
@@ -228,6 +266,6 @@ int main(int argc, char **argv)
             return 0;
         }
     }
-    fputs("use: bench, bench names, or bench NAME N\n", stderr);
+    fputs("use: bench, bench names, bench check, or bench NAME N\n", stderr);
     return 2;
 }

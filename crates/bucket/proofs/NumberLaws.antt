@@ -1,6 +1,6 @@
 -- Counts as numbers: what the code's signed tests and casts say of `number`, `hasBits` and `fitsIn`. Assumes nothing.
 use mathlib.Core.Path.{_≡_, refl, sym, ap, _∙_}
-use mathlib.Core.Bool.{Bool, true, false, _&&_, true≢false}
+use mathlib.Core.Bool.{Bool, true, false, _&&_, true≢false, and-eq-true-iff}
 use mathlib.Core.List.{List, [], _∷_, map}
 use Prim.Native.Nat.{ℕ, zero, suc, _+_, _^_, _≤_, _<_}
 use native.Mathlib.Nat.{le-of-suc-le-suc}
@@ -19,7 +19,6 @@ use borrow.Author.Tests.{ltb-true}
 use Rattle.bucket.specs.Digits.{unpacked}
 use Rattle.bucket.specs.Packing.{number, hasBits, fitsIn}
 use Rattle.bucket.proofs.PackedLaws.{unpacked-length}
-use Rattle.bucket.proofs.TestLaws.{and-both}
 
 -- ---- one count
 
@@ -86,8 +85,8 @@ number-below w (negsuc n) h = absurd (true≢false (sym h))
 pub fits-at : (w : ℕ) (cs : List ℤ) (i : ℕ) → fitsIn w cs ≡ true → i < length cs → number (getD cs i (pos 0)) < 2 ^ w
 unfolding fitsIn
 fits-at w [] i h l = absurd (omega arith)
-fits-at w (c ∷ cs) zero h l = number-below w c (and-both (hasBits w c) (fitsIn w cs) h .0)
-fits-at w (c ∷ cs) (suc i) h l = fits-at w cs i (and-both (hasBits w c) (fitsIn w cs) h .1) (le-of-suc-le-suc l)
+fits-at w (c ∷ cs) zero h l = number-below w c (and-eq-true-iff (hasBits w c) (fitsIn w cs) .0 h .0)
+fits-at w (c ∷ cs) (suc i) h l = fits-at w cs i (and-eq-true-iff (hasBits w c) (fitsIn w cs) .0 h .1) (le-of-suc-le-suc l)
 
 -- the state of the test: those before i have been found to fit
 pub record Fitting (w : ℕ) (cs : List ℤ) (i : ℕ) : Type 0 where

@@ -1,6 +1,6 @@
 -- The tests of widths, lengths and room as inequalities, and back. Assumes nothing.
 use mathlib.Core.Path.{_≡_, ap, ap₂}
-use mathlib.Core.Bool.{Bool, true, false, _&&_}
+use mathlib.Core.Bool.{Bool, true, false, _&&_, and-eq-true-iff}
 use mathlib.Core.List.{List}
 use Prim.Native.Nat.{ℕ, _+_, _*_, _≤_, _<_}
 use native.Mathlib.Nat.{mul-le-mul, mul-le-mul-left, mul-suc}
@@ -10,7 +10,7 @@ use lib.IntN.{ℤ}
 use borrow.Author.Tests.{leb-true, le-leb, lt-leb}
 use Rattle.bucket.specs.Digits.{bytesFor}
 use Rattle.bucket.specs.Packing.{isWidth, fitsIn, takes}
-use Rattle.bucket.proofs.TestLaws.{and-both, and-fails, and-holds}
+use Rattle.bucket.proofs.TestLaws.{and-fails, and-holds}
 
 pub record Room (w n at room : ℕ) : Type 0 where
   pub some : 1 ≤ w
@@ -34,12 +34,12 @@ width-good w h l = and-holds (le-leb 1 w h) (le-leb w 32 l)
 
 module _ (w n at room : ℕ) where
   pub takes-width : takes w n at room ≡ true → isWidth w ≡ true
-  takes-width h = and-both (isWidth w) (leb n 65536 && leb (at + bytesFor (w * n)) room) h .0
+  takes-width h = and-eq-true-iff (isWidth w) (leb n 65536 && leb (at + bytesFor (w * n)) room) .0 h .0
 
   pub takes-room : takes w n at room ≡ true → Room w n at room
   takes-room h =
-      let t = and-both (leb 1 w) (leb w 32) (takes-width h) in
-      let u = and-both (leb n 65536) (leb (at + bytesFor (w * n)) room) (and-both (isWidth w) (leb n 65536 && leb (at + bytesFor (w * n)) room) h .1) in
+      let t = and-eq-true-iff (leb 1 w) (leb w 32) .0 (takes-width h) in
+      let u = and-eq-true-iff (leb n 65536) (leb (at + bytesFor (w * n)) room) .0 (and-eq-true-iff (isWidth w) (leb n 65536 && leb (at + bytesFor (w * n)) room) .0 h .1) in
       let most = leb-true w 32 (t .1) in
       let few = leb-true n 65536 (u .0) in
       record { some = leb-true 1 w (t .0); most = most; few = few; bits = bits-few most few; inside = leb-true (at + bytesFor (w * n)) room (u .1) }

@@ -1,6 +1,6 @@
 -- What was packed into memory is read back: the counts, and zeros behind them. Assumes nothing.
 use mathlib.Core.Path.{_≡_, refl, sym, ap, ap₂, _∙_}
-use mathlib.Core.Bool.{Bool, true, false}
+use mathlib.Core.Bool.{Bool, true, false, and-eq-true-iff}
 use mathlib.Core.List.{List}
 use Prim.Native.Nat.{ℕ, _*_, _^_, _<_}
 use native.Mathlib.Omega.{arith}
@@ -16,7 +16,7 @@ use Rattle.bucket.proofs.NumberLaws.{fits-at}
 use Rattle.bucket.proofs.OverLaws.{part-over, over-length}
 use Rattle.bucket.proofs.PackedLaws.{packed-length, packed-spare, unpacked-packed}
 use Rattle.bucket.proofs.RoomLaws.{Room, takes-room}
-use Rattle.bucket.proofs.TestLaws.{and-both, and-holds, cond-made}
+use Rattle.bucket.proofs.TestLaws.{and-holds, cond-made}
 
 -- counts that fit are numbers of w bits
 numbers-below : (w : ℕ) (cs : List ℤ) → fitsIn w cs ≡ true → Below w (numbers cs)
@@ -27,11 +27,11 @@ numbers-below w cs h i = rw (List·getD-map number cs i (pos 0)) (go (ltb i (len
     go false e = rw (List·getD-eq-default cs (pos 0) (ltb-false i (length cs) e)) (pow-pos w)
 
 module _ (w at : ℕ) (cs : List ℤ) (s : List ℕ) (h : packs w cs at s ≡ true) where
-  fit : fitsIn w cs ≡ true
-  fit = and-both (fitsIn w cs) (takes w (length cs) at (length s)) h .0
+  tests : (fitsIn w cs ≡ true) × (takes w (length cs) at (length s) ≡ true)
+  tests = and-eq-true-iff (fitsIn w cs) (takes w (length cs) at (length s)) .0 h
 
   room : Room w (length cs) at (length s)
-  room = takes-room w (length cs) at (length s) (and-both (fitsIn w cs) (takes w (length cs) at (length s)) h .1)
+  room = takes-room w (length cs) at (length s) (tests .1)
 
   written : packInto w cs at s ≡ over at (packed w (numbers cs)) s
   unfolding packInto
@@ -50,12 +50,12 @@ module _ (w at : ℕ) (cs : List ℤ) (s : List ℕ) (h : packs w cs at s ≡ tr
   packed-back =
       ap (unpacked w (length cs)) there
       ∙ ap (λ (n : ℕ). unpacked w n (packed w (numbers cs))) (sym (length-map cs number))
-      ∙ unpacked-packed w (numbers cs) (numbers-below w cs fit)
+      ∙ unpacked-packed w (numbers cs) (numbers-below w cs (tests .0))
 
   pub packed-bare : isBare w (length cs) at (packInto w cs at s) ≡ true
   unfolding isBare
   packed-bare =
-      and-holds (ap (takes w (length cs) at) kept ∙ and-both (fitsIn w cs) (takes w (length cs) at (length s)) h .1)
+      and-holds (ap (takes w (length cs) at) kept ∙ tests .1)
       (eq-eqb (spareBits w (length cs) (part at (bytesFor (w * length cs)) (packInto w cs at s))) 0 none)
     where
       kept : length (packInto w cs at s) ≡ length s

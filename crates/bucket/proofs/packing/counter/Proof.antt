@@ -1,7 +1,7 @@
 -- `bucket::packing::counter` meets its contract: the bits of counter i stand in the bytes from `first` up to `last`, at most five, and the number
 -- in these bytes, without the bits behind the counter and those before it, is the counter. Assumes nothing.
 use mathlib.Core.Path.{_≡_}
-use Prim.Native.Nat.{_+_, _-_, _*_, _/_, min}
+use Prim.Native.Nat.{_+_, _-_, _*_, _/_, _<_, min}
 use native.Mathlib.Nat.{mod-lt, lt-of-lt-of-le}
 use lib.ListN.{length}
 use lib.Pow.{pow-pos, pow-mono}
@@ -62,8 +62,8 @@ two-to-requires c κs = search needs
 
 div-result : tie.Need-div-result
 div-result c =
-    let a = c .before .before .before .args in
-    omega (arith, c .two-to .ensures, pow-pos (8 * ((a .w * a .i + a .w + 7) / 8) - a .w * a .i - a .w))
+    let some : 0 < c .two-to .result = rw (c .two-to .ensures) (pow-pos _) in
+    omega arith
 
 two-to-requires-2 : tie.Need-two-to-requires-2
 two-to-requires-2 c κs =
