@@ -16,6 +16,7 @@ pub mod SaltLaws
 pub mod CountLaws
 pub mod SearchLaws
 pub mod PlaceLaws
+pub mod StraightLaws
 pub mod BucketLaws
 pub mod PurityLaws
 pub mod SmallLaws

@@ -129,13 +129,13 @@ stays-keep k v c t h = go (leb k (length t) || elem c t)
     go true = h
     go false = elem-append v t (c ∷ []) ∙ ap (λ (b : Bool). b || elem v (c ∷ [])) h
 
-stays-firsts : (k v : ℕ) (t cs : List ℕ) → elem v t ≡ true → elem v (firsts k t cs) ≡ true
+pub stays-firsts : (k v : ℕ) (t cs : List ℕ) → elem v t ≡ true → elem v (firsts k t cs) ≡ true
 unfolding firsts
 stays-firsts k v t [] h = h
 stays-firsts k v t (c ∷ cs) h = stays-firsts k v (keep k t c) cs (stays-keep k v c t h)
 
 -- a candidate is there after its turn, unless there were k before it
-keep-covers : (k c : ℕ) (t : List ℕ) → length t < k → elem c (keep k t c) ≡ true
+pub keep-covers : (k c : ℕ) (t : List ℕ) → length t < k → elem c (keep k t c) ≡ true
 keep-covers k c t h = go (leb k (length t)) (elem c t) refl refl
   where
     go : (a b : Bool) → leb k (length t) ≡ a → elem c t ≡ b → elem c (cond (a || b) t (t ++ c ∷ [])) ≡ true

@@ -1,90 +1,100 @@
--- `bucket::purity::is_place` meets its contract. The loop keeps: i is none of the first j places, so that it is among all as it is among the rest.
--- Behind them the array holds zeros, so the loop ends at their count. Assumes nothing.
-use mathlib.Core.Path.{_≡_, refl}
-use Prim.Native.Nat.{_-_, _≤_, min}
+-- `bucket::purity::is_place` meets its contract: each of the first three draws leads to a place where three are asked for; where three are asked
+-- for and these differ, there are no others; and otherwise `is_found` says it. Assumes nothing.
+use mathlib.Core.Path.{_≡_, refl, sym, ap, _∙_}
+use Prim.Native.Nat.{ℕ, min}
 use native.Mathlib.Omega.{arith}
 use borrow.Author.Needs.{needs}
-use lib.ListN.{drop}
 use Rattle.bucket.specs.Crc.{nextBy}
 use Rattle.bucket.specs.Lists.{elem}
-use Rattle.bucket.specs.Places.{placesBy}
-use Rattle.bucket.proofs.PlaceLaws.{place-hit, place-miss, place-none}
+use Rattle.bucket.specs.Places.{draw, placesBy}
+use Rattle.bucket.proofs.ListLaws.{elem-nil}
+use Rattle.bucket.proofs.PlaceLaws.{places-of-none}
+use Rattle.bucket.proofs.StraightLaws.{draw-placed, least-three, three-missed}
 use Rattle.bucket.proofs.purity.is_place.Statement.{statement}
 use Rattle.bucket.proofs.purity.is_place.Tie as tie
 
-abbrev Inv-loop : tie.InvT-loop
-Inv-loop tab d i size k n p j₀ j =
-    (j ≤ n) × (n ≡ min (min 4 k) size)
-    × (elem i (drop j (placesBy (nextBy tab) (min 4 k) size d)) ≡ elem i (placesBy (nextBy tab) (min 4 k) size d))
-
-abbrev μ-loop : tie.MeasureT-loop
-μ-loop tab d i size k n p j₀ j = n - j
-
-least-requires : tie.Need-least-requires Inv-loop μ-loop
-least-requires c κs = search needs
-
-least-requires-2 : tie.Need-least-requires-2 Inv-loop μ-loop
-least-requires-2 c κs = search needs
-
-places-requires : tie.Need-places-requires Inv-loop μ-loop
-places-requires c κs = search needs
-
-loop-holds : tie.Need-loop-holds Inv-loop μ-loop
-loop-holds c = (omega arith, omega arith, refl)
-
-mul-if1 : tie.Need-mul-if1 Inv-loop μ-loop
-mul-if1 c = search needs
-
-array-read-if1 : tie.Need-array-read-if1 Inv-loop μ-loop
-array-read-if1 c = search needs
-
-returns : tie.Need-returns Inv-loop μ-loop
+returns : tie.Need-returns
 returns c =
-    let s = c .before .before .before .before .before .before in
-    let e = c .before .before .before .places in
-    let at = c .before .before .loop in
-    place-hit (nextBy (s .args .tab .now)) (min 4 (s .args .k)) (s .args .size) (s .args .d) 4 (e .result) (e .ensures) (s .args .i) (at .j)
-    (at .inv .2) (omega arith) (c .if1 .taken)
+    let args = c .before .args in
+    sym
+    (ap (λ (n : ℕ). elem (args .i) (placesBy (nextBy (args .tab .now)) (min 4 (args .k)) n (args .d))) (c .if1 .taken)
+    ∙ ap (elem (args .i)) (places-of-none (nextBy (args .tab .now)) (min 4 (args .k)) (args .d))
+    ∙ elem-nil (args .i))
 
-add-j : tie.Need-add-j Inv-loop μ-loop
-add-j c = search needs
+rem-a : tie.Need-rem-a
+rem-a c = search needs
 
-loop-less : tie.Need-loop-less Inv-loop μ-loop
-loop-less c = search needs
-
-loop-again : tie.Need-loop-again Inv-loop μ-loop
-loop-again c =
-    let s = c .before .before .before .before .before .before in
-    let e = c .before .before .before .places in
-    let at = c .before .before .loop in (
-      search needs,
-      at .inv .1,
-      place-miss (nextBy (s .args .tab .now)) (min 4 (s .args .k)) (s .args .size) (s .args .d) 4 (e .result) (e .ensures) (s .args .i) (at .j)
-          (at .inv .2) (omega arith) (c .if1 .left),
-    )
-
-returns-2 : tie.Need-returns-2 Inv-loop μ-loop
+returns-2 : tie.Need-returns-2
+unfolding draw
 returns-2 c =
-    let s = c .before .before .before .before .before in
-    let e = c .before .before .places in
-    let at = c .before .loop in
-    place-none (nextBy (s .args .tab .now)) (min 4 (s .args .k)) (s .args .size) (s .args .d) 4 (e .result) (e .ensures) (s .args .i) (at .j)
-    (at .inv .2) (omega arith)
+    let args = c .before .before .before .args in
+    draw-placed (nextBy (args .tab .now)) (min 4 (args .k)) (args .size) (args .d) 0 (args .d) (args .i) (omega arith) (omega arith) (omega arith)
+    refl (c .if3 .taken)
+
+next-draw-requires : tie.Need-next-draw-requires
+next-draw-requires c κs = search needs
+
+rem-b : tie.Need-rem-b
+rem-b c = search needs
+
+returns-3 : tie.Need-returns-3
+unfolding draw
+returns-3 c =
+    let args = c .before .before .before .before .before .args in
+    let e = c .before .next-draw in
+    draw-placed (nextBy (args .tab .now)) (min 4 (args .k)) (args .size) (args .d) 1 (e .result) (args .i) (omega arith) (omega arith) (omega arith)
+    (e .ensures) (c .if4 .taken)
+
+next-draw-requires-2 : tie.Need-next-draw-requires-2
+next-draw-requires-2 c κs = search needs
+
+rem-c : tie.Need-rem-c
+rem-c c = search needs
+
+returns-4 : tie.Need-returns-4
+unfolding draw
+returns-4 c =
+    let args = c .before .before .before .before .before .before .before .args in
+    let e = c .before .before .before .next-draw in
+    let f = c .before .next-draw2 in
+    draw-placed (nextBy (args .tab .now)) (min 4 (args .k)) (args .size) (args .d) 2 (f .result) (args .i) (omega arith) (omega arith) (omega arith)
+    (f .ensures ∙ ap (λ (v : ℕ). nextBy (args .tab .now) v 1) (e .ensures)) (c .if5 .taken)
+
+differ-requires : tie.Need-differ-requires
+differ-requires c κs = search needs
+
+returns-5 : tie.Need-returns-5
+returns-5 c =
+    let missed = c .before .before .before in
+    let second = missed .before .before in
+    let first = second .before .before in
+    let args = first .before .before .before .args in
+    three-missed (nextBy (args .tab .now)) (args .size) (args .d) (second .before .next-draw .result) (missed .before .next-draw2 .result) (omega arith)
+    (second .before .next-draw .ensures) (missed .before .next-draw2 .ensures) (args .i) (c .before .differ .ensures (c .if7 .taken)) (first .if3 .left)
+    (second .if4 .left) (missed .if5 .left)
+    ∙ ap (λ (n : ℕ). elem (args .i) (placesBy (nextBy (args .tab .now)) n (args .size) (args .d)))
+    (least-three (args .k) (c .before .before .if6 .taken))
+
+is-found-requires : tie.Need-is-found-requires
+is-found-requires c κs = search needs
+
+returns-6 : tie.Need-returns-6
+returns-6 c = search needs
 
 pub is-place-spec : {M : Type 1} → statement M
 is-place-spec =
     tie.close
     (tie.spec
-    Inv-loop
-    μ-loop
-    least-requires
-    least-requires-2
-    places-requires
-    loop-holds
-    mul-if1
-    array-read-if1
     returns
-    add-j
-    loop-less
-    loop-again
-    returns-2)
+    rem-a
+    returns-2
+    next-draw-requires
+    rem-b
+    returns-3
+    next-draw-requires-2
+    rem-c
+    returns-4
+    differ-requires
+    returns-5
+    is-found-requires
+    returns-6)

@@ -1,0 +1,163 @@
+-- Demand 3 of the order, both halves, of the reading call as its contract states it.
+--
+-- complete-trusted: "Whatever the far end sends, .. when it is called complete, the filter made by the rules, at our size and salt, from our
+-- IDs, less those listed as ours, plus those listed as theirs, equals the received one in every bucket and column."
+-- reads-exactly: "Further, let the received filter be made by the rules, at our size and salt, from any set of IDs. Suppose that in no part of
+-- the true difference does a bucket shared by several IDs pass for a bucket holding one ID or none. Then the reading lists exactly the true
+-- difference less its largest knot, if there is one, each ID once and on its right side. It is called complete exactly when there is no knot,
+-- and otherwise stuck."
+--
+-- "a reading is document 01's peeling, order and all" is the contract itself: readCall is stated by `reading` and `verdict` of specs/Peeling.
+-- A knot is a stopping set (specs/Stopping). proofs/Examples shows differences that the supposition holds of, with a knot and without.
+-- Assumes nothing.
+use mathlib.Core.Path.{_≡_, refl, sym, ap, ap₂, _∙_, subst}
+use mathlib.Core.Logic.{_⊎_, inl, inr}
+use mathlib.Core.Bool.{Bool, true}
+use mathlib.Core.List.{List, _++_, reverse}
+use Prim.Native.Nat.{ℕ, _^_, _<_}
+use native.Mathlib.Omega.{arith}
+use lib.Dec.{eqb}
+use lib.ListN.{length, take}
+use Rattle.bucket.specs.Bucket.{Bucket, _⊕_}
+use Rattle.bucket.specs.Columns.{Columns, view}
+use Rattle.bucket.specs.Lists.{elem, Distinct}
+use Rattle.filter.specs.declared.answers.Refusal.the-variants.{None}
+use Rattle.filter.specs.declared.answers.Verdict.{Verdict}
+use Rattle.filter.specs.declared.answers.Verdict.the-variants.{Complete, Stuck, False}
+use Rattle.filter.specs.Lists.{minus}
+use Rattle.filter.specs.Table.{idsOf}
+use Rattle.filter.specs.Filter.{Item, ids, oursOf, theirsOf, Rule, filterRule, filterOf, difference}
+use Rattle.filter.specs.Peeling.{Outcome}
+use Rattle.filter.specs.Stopping.{differing, Clear, Exactly}
+use Rattle.filter.specs.Calls.{listedInto, readRefusal, Read, readWith, outcomeOf, verdictOf, readCall}
+use Rattle.filter.proofs.SelectLaws.{elem-mem, mem-elem, elem-reverse, distinct-append, distinct-reverse, minus-cong}
+use Rattle.filter.proofs.SideLaws.{distinct-ours, distinct-theirs, sides-apart}
+use Rattle.filter.proofs.SumLaws.{filter-append, filter-reverse}
+use Rattle.filter.proofs.SoundLaws.{sound, reading-distinct}
+use Rattle.filter.proofs.LeftLaws.{Fair}
+use Rattle.filter.proofs.ExactLaws.{Placed, isComplete, exactly, never-false}
+use Rattle.filter.proofs.IdLaws.{ids-distinct, fair, placed}
+use Rattle.filter.proofs.GrantedLaws.{granted-table, granted-size, granted-read, complete-granted, listed-back}
+
+-- the IDs that a call lists: the first part of each list, up to the length that it answers
+abbrev pub listedOurs : Read → List ℕ
+listedOurs m = take (m .answer .ours) (m .ours)
+
+abbrev pub listedTheirs : Read → List ℕ
+listedTheirs m = take (m .answer .theirs) (m .theirs)
+
+-- ---- the order of a list does not matter
+
+module _ (R : Rule) where
+  filter-listed : (t o th : List ℕ) (i : ℕ)
+      → filterOf R (minus t (reverse o) ++ reverse th) i ≡ filterOf R (minus t o ++ th) i
+  filter-listed t o th i =
+      filter-append R (minus t (reverse o)) (reverse th) i
+      ∙ ap₂ (λ (a b : Bucket). a ⊕ b)
+      (ap (λ (l : List ℕ). filterOf R l i) (minus-cong t (reverse o) o (λ a. elem-reverse a o))) (filter-reverse R th i)
+      ∙ sym (filter-append R (minus t o) th i)
+
+  exactly-listed : (t s : List ℕ) (l : List Item) (b : Bool) → Distinct (reverse (oursOf l) ++ reverse (theirsOf l))
+      → Exactly R t s (oursOf l) (theirsOf l) b → Exactly R t s (reverse (oursOf l)) (reverse (theirsOf l)) b
+  exactly-listed t s l b once e = record {
+    core = e .core;
+    is-core = e .is-core;
+    ours-are = λ a. elem-reverse a (oursOf l) ∙ e .ours-are a;
+    theirs-are = λ a. elem-reverse a (theirsOf l) ∙ e .theirs-are a;
+    once = once;
+    whole = e .whole;
+    stopped = e .stopped;
+  }
+
+-- ---- first half
+
+pub complete-trusted : (derive : ℕ → ℕ) (size salt : ℕ) (t : List ℕ) (c : Columns) (o th : List ℕ)
+    → let m = readCall derive size salt t c o th in
+    m .answer .refusal ≡ 0 → m .answer .complete ≡ 1
+    → (i : ℕ) → i < size
+    → view c i ≡ filterOf (filterRule size salt)
+    (minus (idsOf derive t) (take (m .answer .ours) (m .ours)) ++ take (m .answer .theirs) (m .theirs)) i
+unfolding readWith
+complete-trusted derive size salt t c o th accepted whole i h =
+    subst Trusted (sym asked) (go (verdictOf derive size salt t c) refl (subst (λ (m : Read). m .answer .complete ≡ 1) asked whole))
+  where
+    Trusted : Read → Type 0
+    Trusted m = view c i ≡ filterOf (filterRule size salt) (minus (idsOf derive t) (listedOurs m) ++ listedTheirs m) i
+
+    r : Outcome
+    r = outcomeOf derive size salt t c
+
+    asked : readCall derive size salt t c o th ≡ readWith (verdictOf derive size salt t c) size r c o th
+    asked = granted-read derive size salt t c o th (complete-granted derive size salt t c o th whole)
+
+    table : Distinct (idsOf derive t)
+    table = ids-distinct derive t (granted-table derive size salt t c o th (complete-granted derive size salt t c o th whole))
+
+    go : (v : Verdict) → verdictOf derive size salt t c ≡ v → readWith v size r c o th .answer .complete ≡ 1 → Trusted (readWith v size r c o th)
+    go Complete e k =
+        sound (filterRule size salt) (idsOf derive t) (view c) table e i h
+        ∙ sym (filter-listed (filterRule size salt) (idsOf derive t) (oursOf (r .listed)) (theirsOf (r .listed)) i)
+        ∙ ap₂ (λ (a b : List ℕ). filterOf (filterRule size salt) (minus (idsOf derive t) a ++ b) i)
+        (sym (listed-back size (oursOf (r .listed)) o)) (sym (listed-back size (theirsOf (r .listed)) th))
+    go Stuck e k = absurd (omega arith)
+    go False e k = absurd (omega arith)
+
+-- ---- second half
+
+pub reads-exactly : (derive : ℕ → ℕ) → ((h : ℕ) → h < 2 ^ 512 → derive h < 2 ^ 64)
+    → (size salt : ℕ) (t : List ℕ) (c : Columns) (o th : List ℕ) → readRefusal derive size salt t c o th ≡ None
+    → (s : List ℕ) → Distinct s → ((a : ℕ) → elem a s ≡ true → a < 2 ^ 64)
+    → ((i : ℕ) → i < size → view c i ≡ filterOf (filterRule size salt) s i)
+    → Clear (filterRule size salt) (differing (idsOf derive t) s)
+    → let m = readCall derive size salt t c o th in
+    (m .answer .refusal ≡ 0)
+    × Exactly (filterRule size salt) (idsOf derive t) s
+    (take (m .answer .ours) (m .ours)) (take (m .answer .theirs) (m .theirs)) (eqb (m .answer .complete) 1)
+unfolding readWith
+reads-exactly derive bound size salt t c o th granted s ds small made clear =
+    subst Right (sym (granted-read derive size salt t c o th granted)) (go never)
+  where
+    R : Rule
+    R = filterRule size salt
+
+    Right : Read → Type 0
+    Right m = (m .answer .refusal ≡ 0) × Exactly (filterRule size salt) (idsOf derive t) s (listedOurs m) (listedTheirs m) (eqb (m .answer .complete) 1)
+
+    r : Outcome
+    r = outcomeOf derive size salt t c
+
+    table : Distinct (idsOf derive t)
+    table = ids-distinct derive t (granted-table derive size salt t c o th granted)
+
+    rule-placed : Placed R
+    rule-placed = let large = granted-size derive size salt t c o th granted in placed size salt (omega arith)
+
+    rule-fair : Fair R (differing (idsOf derive t) s)
+    rule-fair = fair derive bound size salt t s small clear
+
+    never : (verdictOf derive size salt t c ≡ Complete) ⊎ (verdictOf derive size salt t c ≡ Stuck)
+    never = never-false R rule-placed (idsOf derive t) s table ds (view c) made rule-fair
+
+    dl : Distinct (ids (r .listed))
+    dl = reading-distinct R (difference R (idsOf derive t) (view c))
+
+    once : Distinct (reverse (oursOf (r .listed)) ++ reverse (theirsOf (r .listed)))
+    once =
+        distinct-append (reverse (oursOf (r .listed))) (reverse (theirsOf (r .listed)))
+        (distinct-reverse (oursOf (r .listed)) (distinct-ours (r .listed) dl)) (distinct-reverse (theirsOf (r .listed)) (distinct-theirs (r .listed) dl))
+        (λ a m n. sides-apart (r .listed) dl a
+        (elem-mem a (oursOf (r .listed)) (sym (elem-reverse a (oursOf (r .listed))) ∙ mem-elem m))
+        (elem-mem a (theirsOf (r .listed)) (sym (elem-reverse a (theirsOf (r .listed))) ∙ mem-elem n)))
+
+    listed : (v : Verdict) → verdictOf derive size salt t c ≡ v
+        → Exactly R (idsOf derive t) s (take (length (oursOf (r .listed))) (listedInto size (reverse (oursOf (r .listed))) o))
+        (take (length (theirsOf (r .listed))) (listedInto size (reverse (theirsOf (r .listed))) th)) (isComplete v)
+    listed v e =
+        rw (listed-back size (oursOf (r .listed)) o, listed-back size (theirsOf (r .listed)) th)
+        (exactly-listed R (idsOf derive t) s (r .listed) (isComplete v) once
+        (rw e at (exactly R rule-placed (idsOf derive t) s table ds (view c) made rule-fair)))
+
+    go : (verdictOf derive size salt t c ≡ Complete) ⊎ (verdictOf derive size salt t c ≡ Stuck)
+        → Right (readWith (verdictOf derive size salt t c) size r c o th)
+    go (inl e) = subst (λ (v : Verdict). Right (readWith v size r c o th)) (sym e) (refl, listed Complete e)
+    go (inr e) = subst (λ (v : Verdict). Right (readWith v size r c o th)) (sym e) (refl, listed Stuck e)

@@ -1,0 +1,83 @@
+-- The parts of the two calls, over variables: what they ask holds, and columns cleared or negated and then added to are the filter or
+-- the difference. Assumes nothing.
+use mathlib.Core.Path.{_≡_, sym, ap, ap₂, _∙_, subst}
+use mathlib.Core.Bool.{Bool, true, false, _&&_, cond, and-eq-true-iff}
+use mathlib.Core.List.{List, [], _∷_, map}
+use Prim.Native.Nat.{ℕ, _≤_, _<_, _^_}
+use native.Mathlib.Omega.{arith}
+use borrow.Author.Tests.{leb-true, ltb-true}
+use lib.Dec.{leb, ltb}
+use lib.IntN.{ℤ, pos, natAbs, negℤ}
+use lib.ListN.{length, getD}
+use Rattle.bucket.specs.Bucket.{Bucket, _⊕_, neg, 𝟎}
+use Rattle.bucket.specs.Columns.{Columns, columns, view}
+use Rattle.bucket.specs.Places.{placeCount}
+use Rattle.bucket.proofs.BucketLaws.{⊕-idl, ⊕-comm}
+use Rattle.filter.specs.Filter.{ours, Rule, touches, cell, put, sumAt, filterOf, difference}
+use Rattle.filter.specs.Calls.{inRange, areCounts, filled}
+use Rattle.filter.specs.Steps.{Wide, Small, Sound}
+use Rattle.filter.proofs.FilledLaws.{view-filled-in, filled-filled, filled-cong}
+use Rattle.filter.proofs.FormLaws.{counts-small}
+use Rattle.filter.proofs.NegatedLaws.{abs-neg}
+use Rattle.filter.proofs.SpreadLaws.{abs-sum}
+
+pub range-sound : (size salt : ℕ) → inRange size salt ≡ true → Sound size (placeCount size) salt
+unfolding inRange placeCount
+range-sound size salt h =
+    let a = and-eq-true-iff (leb 37 size) (leb size 4096 && ltb salt 64) .0 h in
+    let b = and-eq-true-iff (leb size 4096) (ltb salt 64) .0 (a .1) in
+    record { least = leb-true _ _ (a .0); most = leb-true _ _ (b .0); some = omega arith; few = omega arith; salt-in = ltb-true _ _ (b .1) }
+
+-- counts are those of the buckets
+small-filled : (n m : ℕ) (f : ℕ → Bucket) (c : Columns) → Wide n c → ((i : ℕ) → i < n → natAbs (f i .count) < m) → Small n m (filled n f c)
+small-filled n m f c w h = record { all = λ i l. subst (λ (z : ℤ). natAbs z < m) (sym (at i l)) (h i l) }
+  where
+    at : (i : ℕ) → i < n → getD (filled n f c .counts) i (pos 0) ≡ f i .count
+    at i l = unfold view in ap (λ (b : Bucket). b .count) (view-filled-in n f c i w l)
+
+pub small-cleared : (n : ℕ) (c : Columns) → Wide n c → Small n (2 ^ 33) (filled n (λ i. 𝟎) c)
+small-cleared n c w = small-filled n (2 ^ 33) (λ i. 𝟎) c w (λ i l. unfold 𝟎 in omega arith)
+
+-- an element counts at most once in a bucket
+put-count : (R : Rule) (a i : ℕ) → natAbs (put R (ours a) i .count) ≤ 1
+unfolding put cell 𝟎
+put-count R a i = go (touches R (ours a) i)
+  where
+    go : (t : Bool) → natAbs (cond t (cell R (ours a)) 𝟎 .count) ≤ 1
+    go true = omega arith
+    go false = omega arith
+
+filter-count : (R : Rule) (t : List ℕ) (i : ℕ) → natAbs (filterOf R t i .count) ≤ length t
+unfolding filterOf sumAt _⊕_ 𝟎
+filter-count R [] i = omega arith
+filter-count R (a ∷ t) i = omega (arith, abs-sum (put R (ours a) i .count) (sumAt R (map ours t) i .count), put-count R a i, filter-count R t i)
+
+pub small-difference : (R : Rule) (t : List ℕ) (n : ℕ) (c : Columns) → Wide n c → areCounts n (c .counts) ≡ true → length t ≤ 4096
+    → Small n (2 ^ 34) (filled n (difference R t (view c)) c)
+unfolding difference _⊕_ neg view
+small-difference R t n c w h l = small-filled n (2 ^ 34) (difference R t (view c)) c w each
+  where
+    each : (i : ℕ) → i < n → natAbs (difference R t (view c) i .count) < 2 ^ 34
+    each i k =
+        let s = counts-small n c w h .all i k in
+        omega (arith, abs-sum (filterOf R t i .count) (negℤ (view c i .count)), filter-count R t i, abs-neg (view c i .count))
+
+module _ (n : ℕ) (K : ℕ) (g : ℕ → ℕ → Bucket) (c : Columns) (w : Wide n c) where
+  -- with k places an element, k being K: added to columns that hold f
+  added-after : (f : ℕ → Bucket) (k : ℕ) {c₁ c₂ : Columns} → c₁ ≡ filled n f c → k ≡ K → c₂ ≡ filled n (λ i. view c₁ i ⊕ g k i) c₁
+      → c₂ ≡ filled n (λ i. f i ⊕ g K i) c
+  added-after f k e p q =
+      q ∙ ap₂ (λ (d : Columns) (m : ℕ). filled n (λ i. view d i ⊕ g m i) d) e p
+      ∙ filled-filled n f (λ i. view (filled n f c) i ⊕ g K i) c w
+      ∙ filled-cong n (λ i. view (filled n f c) i ⊕ g K i) (λ i. f i ⊕ g K i) c (λ i h. ap (λ (b : Bucket). b ⊕ g K i) (view-filled-in n f c i w h))
+
+  -- to cleared columns
+  pub built-after : (k : ℕ) {c₁ c₂ : Columns} → c₁ ≡ filled n (λ i. 𝟎) c → k ≡ K → c₂ ≡ filled n (λ i. view c₁ i ⊕ g k i) c₁ → c₂ ≡ filled n (g K) c
+  built-after k e p q = added-after (λ i. 𝟎) k e p q ∙ filled-cong n (λ i. 𝟎 ⊕ g K i) (g K) c (λ i h. ⊕-idl (g K i))
+
+  -- to negated ones
+  pub subtracted-after : (k : ℕ) {c₁ c₂ : Columns} → c₁ ≡ filled n (λ i. neg (view c i)) c → k ≡ K → c₂ ≡ filled n (λ i. view c₁ i ⊕ g k i) c₁
+      → c₂ ≡ filled n (λ i. g K i ⊕ neg (view c i)) c
+  subtracted-after k e p q =
+      added-after (λ i. neg (view c i)) k e p q
+      ∙ filled-cong n (λ i. neg (view c i) ⊕ g K i) (λ i. g K i ⊕ neg (view c i)) c (λ i h. ⊕-comm (neg (view c i)) (g K i))

@@ -1,0 +1,305 @@
+-- A peeling, step by step: the search for the first pure bucket, what each kind of step leaves of the invariant
+-- `reading R f₀ ≡ run R k (next R acc f) acc f`, and that a reading goes by the buckets below the size alone. Assumes nothing.
+use mathlib.Core.Path.{_≡_, refl, sym, ap, ap₂, _∙_}
+use mathlib.Core.Bool.{Bool, true, false, _&&_, _||_, cond, and-eq-true-iff}
+use mathlib.Core.List.{List, [], _∷_}
+use mathlib.Core.Logic.{_⊎_, inl, inr}
+use mathlib.Core.Option.{Option, none, some, Option·none-ne-some, Option·some-ne-none}
+use Prim.Native.Nat.{ℕ, zero, suc, _+_, _≤_, _<_}
+use native.Mathlib.Nat.{eq-or-lt-of-le}
+use native.Mathlib.Omega.{arith}
+use lib.Dec.{eqb, ltb}
+use lib.ListN.{length}
+use borrow.Author.Tests.{ltb-true, lt-ltb}
+use Rattle.bucket.specs.Bucket.{Bucket, _⊖_, isZero}
+use Rattle.bucket.specs.Lists.{elem}
+use Rattle.bucket.proofs.ListLaws.{or-assoc}
+use Rattle.filter.specs.Filter.{Item, ours, theirs, idOf, ids, oursOf, theirsOf, Rule, put}
+use Rattle.filter.specs.Peeling.{
+  sided,
+  orElse,
+  first,
+  allZero,
+  Next,
+  nothing,
+  again,
+  take,
+  judge,
+  Outcome,
+  ended,
+  isPure,
+  look,
+  remove,
+  next,
+  run,
+  reading,
+  verdict,
+}
+use Rattle.filter.specs.Marks.{Least}
+use Rattle.filter.specs.Steps.{shows}
+
+-- ---- the search
+
+module _ (g : ℕ → Option Item) where
+  pub first-some : (i n : ℕ) (x : Item) → first g i n ≡ some x → (j : ℕ) × (i ≤ j) × (j < i + n) × (g j ≡ some x)
+  unfolding first
+  first-some i zero x e = absurd (Option·none-ne-some x e)
+  first-some i (suc n) x e = go (g i) refl e (first-some (suc i) n x)
+    where
+      go : (o : Option Item) → g i ≡ o → orElse o (first g (suc i) n) ≡ some x
+          → (first g (suc i) n ≡ some x → (j : ℕ) × (suc i ≤ j) × (j < suc i + n) × (g j ≡ some x))
+          → (j : ℕ) × (i ≤ j) × (j < i + suc n) × (g j ≡ some x)
+      go (some y) h k ih = (i, omega arith, omega arith, h ∙ k)
+      go none h k ih = let r = ih k in (r .0, omega arith, omega arith, r .3)
+
+  pub first-none : (i n : ℕ) → first g i n ≡ none → (j : ℕ) → i ≤ j → j < i + n → g j ≡ none
+  unfolding first
+  first-none i zero e j l h = absurd (omega arith)
+  first-none i (suc n) e j l h = go (g i) refl e (eq-or-lt-of-le l) (first-none (suc i) n)
+    where
+      go : (o : Option Item) → g i ≡ o → orElse o (first g (suc i) n) ≡ none → (i ≡ j) ⊎ (i < j)
+          → (first g (suc i) n ≡ none → (j : ℕ) → suc i ≤ j → j < suc i + n → g j ≡ none) → g j ≡ none
+      go (some y) k m c ih = absurd (Option·some-ne-none y m)
+      go none k m (inl p) ih = ap g (sym p) ∙ k
+      go none k m (inr p) ih = ih m j p (omega arith)
+
+  -- nothing is found where there is nothing
+  pub first-of-none : (i n : ℕ) → ((j : ℕ) → i ≤ j → j < i + n → g j ≡ none) → first g i n ≡ none
+  unfolding first
+  first-of-none i zero h = refl
+  first-of-none i (suc n) h =
+      ap₂ orElse (h i (omega arith) (omega arith)) (first-of-none (suc i) n (λ j l k. h j (omega arith) (omega arith)))
+
+  -- nothing before j, then an answer at j
+  pub first-found : (i n j : ℕ) (x : Item) → ((k : ℕ) → i ≤ k → k < j → g k ≡ none) → i ≤ j → j < i + n → g j ≡ some x → first g i n ≡ some x
+  unfolding first
+  first-found i zero j x h l b e = absurd (omega arith)
+  first-found i (suc n) j x h l b e = go (eq-or-lt-of-le l) (first-found (suc i) n j x (λ k p q. h k (omega arith) q))
+    where
+      go : (i ≡ j) ⊎ (i < j) → (suc i ≤ j → j < suc i + n → g j ≡ some x → first g (suc i) n ≡ some x)
+          → orElse (g i) (first g (suc i) n) ≡ some x
+      go (inl p) ih = ap (λ (o : Option Item). orElse o (first g (suc i) n)) (ap g p ∙ e)
+      go (inr p) ih = ap₂ orElse (h i (omega arith) p) (ih p (omega arith) e)
+
+pub first-cong : (g h : ℕ → Option Item) (i n : ℕ) → ((j : ℕ) → i ≤ j → j < i + n → g j ≡ h j) → first g i n ≡ first h i n
+unfolding first
+first-cong g h i zero e = refl
+first-cong g h i (suc n) e =
+    ap₂ orElse (e i (omega arith) (omega arith)) (first-cong g h (suc i) n (λ j l k. e j (omega arith) (omega arith)))
+
+-- ---- what a look shows
+
+module _ (R : Rule) where
+  -- the item that a bucket shows where it looks pure
+  abbrev pub shown : Bucket → Item
+  shown b = sided (b .count) (R .decode (b .idsum))
+
+  pub look-pure : (i : ℕ) (b : Bucket) → isPure R i b ≡ true → look R i b ≡ some (shown b)
+  unfolding look
+  look-pure i b e = ap (λ (t : Bool). cond t (some (shown b)) none) e
+
+  pub look-not : (i : ℕ) (b : Bucket) → isPure R i b ≡ false → look R i b ≡ none
+  unfolding look
+  look-not i b e = ap (λ (t : Bool). cond t (some (shown b)) none) e
+
+  pub look-none : (i : ℕ) (b : Bucket) → look R i b ≡ none → isPure R i b ≡ false
+  unfolding look
+  look-none i b e = go (isPure R i b) e
+    where
+      go : (t : Bool) → cond t (some (shown b)) none ≡ none → t ≡ false
+      go true k = absurd (Option·some-ne-none (shown b) k)
+      go false k = refl
+
+  pub look-some : (i : ℕ) (b : Bucket) (x : Item) → look R i b ≡ some x → isPure R i b ≡ true
+  unfolding look
+  look-some i b x e = go (isPure R i b) e
+    where
+      go : (t : Bool) → cond t (some (shown b)) none ≡ some x → t ≡ true
+      go true k = refl
+      go false k = absurd (Option·none-ne-some x k)
+
+  abbrev pub looks : (ℕ → Bucket) → ℕ → Option Item
+  looks f i = look R i (f i)
+
+  -- nothing pure below i, and bucket i pure
+  pub first-pure : (f : ℕ → Bucket) (n i : ℕ) → ((j : ℕ) → j < i → isPure R j (f j) ≡ false) → i < n → isPure R i (f i) ≡ true
+      → first (looks f) 0 n ≡ some (shown (f i))
+  first-pure f n i h l e =
+      first-found (looks f) 0 n i (shown (f i)) (λ k p q. look-not k (f k) (h k q)) (omega arith) (omega arith) (look-pure i (f i) e)
+
+  pub first-impure : (f : ℕ → Bucket) (n : ℕ) → ((j : ℕ) → j < n → isPure R j (f j) ≡ false) → first (looks f) 0 n ≡ none
+  first-impure f n h = first-of-none (looks f) 0 n (λ j l k. look-not j (f j) (h j (omega arith)))
+
+-- ---- what comes next
+
+pub judge-take : (o : Option Item) (acc : List Item) (x : Item) → judge o acc ≡ take x → (o ≡ some x) × (elem (idOf x) (ids acc) ≡ false)
+judge-take none acc x e = (cc, cc)
+judge-take (some y) acc x e = go (elem (idOf y) (ids acc)) refl e
+  where
+    go : (t : Bool) → elem (idOf y) (ids acc) ≡ t → cond t again (take y) ≡ take x
+        → (_≡_ {A = Option Item} (some y) (some x)) × (elem (idOf x) (ids acc) ≡ false)
+    go true h k = (cc, cc)
+    go false h k = (cc, cc)
+
+pub judge-nothing : (o : Option Item) (acc : List Item) → judge o acc ≡ nothing → o ≡ none
+judge-nothing none acc e = refl
+judge-nothing (some y) acc e = go (elem (idOf y) (ids acc)) e
+  where
+    go : (t : Bool) → cond t again (take y) ≡ nothing → _≡_ {A = Option Item} (some y) none
+    go true k = cc
+    go false k = cc
+
+pub judge-again : (o : Option Item) (acc : List Item) → judge o acc ≡ again → (x : Item) × (o ≡ some x) × (elem (idOf x) (ids acc) ≡ true)
+judge-again none acc e = (ours 0, cc, cc)
+judge-again (some y) acc e = (y, refl, go (elem (idOf y) (ids acc)) e)
+  where
+    go : (t : Bool) → cond t again (take y) ≡ again → t ≡ true
+    go true k = refl
+    go false k = cc
+
+module _ (R : Rule) (acc : List Item) (f : ℕ → Bucket) where
+  pub next-take : (x : Item) → next R acc f ≡ take x → (first (looks R f) 0 (R .size) ≡ some x) × (elem (idOf x) (ids acc) ≡ false)
+  unfolding next
+  next-take x e = judge-take (first (looks R f) 0 (R .size)) acc x e
+
+  pub next-nothing : next R acc f ≡ nothing → first (looks R f) 0 (R .size) ≡ none
+  unfolding next
+  next-nothing e = judge-nothing (first (looks R f) 0 (R .size)) acc e
+
+  pub next-again : next R acc f ≡ again → (x : Item) × (first (looks R f) 0 (R .size) ≡ some x) × (elem (idOf x) (ids acc) ≡ true)
+  unfolding next
+  next-again e = judge-again (first (looks R f) 0 (R .size)) acc e
+
+  pub next-none : ((i : ℕ) → i < R .size → isPure R i (f i) ≡ false) → next R acc f ≡ nothing
+  unfolding next
+  next-none h = ap (λ (o : Option Item). judge o acc) (first-impure R f (R .size) h)
+
+  module _ (i : ℕ) (below : (j : ℕ) → j < i → isPure R j (f j) ≡ false) (inside : i < R .size) (here : isPure R i (f i) ≡ true) where
+    next-pure : next R acc f ≡ cond (elem (idOf (shown R (f i))) (ids acc)) again (take (shown R (f i)))
+    unfolding next
+    next-pure = ap (λ (o : Option Item). judge o acc) (first-pure R f (R .size) i below inside here)
+
+    pub next-fresh : elem (idOf (shown R (f i))) (ids acc) ≡ false → next R acc f ≡ take (shown R (f i))
+    next-fresh e = next-pure ∙ ap (λ (t : Bool). cond t again (take (shown R (f i)))) e
+
+    pub next-repeat : elem (idOf (shown R (f i))) (ids acc) ≡ true → next R acc f ≡ again
+    next-repeat e = next-pure ∙ ap (λ (t : Bool). cond t again (take (shown R (f i)))) e
+
+-- the set of pure buckets below the size
+module _ (R : Rule) (f : ℕ → Bucket) where
+  shows-inside : (i : ℕ) → i < R .size → shows R f i ≡ isPure R i (f i)
+  shows-inside i h = ap (λ (t : Bool). t && isPure R i (f i)) (lt-ltb i (R .size) h)
+
+  pub shows-none : ((i : ℕ) → i < R .size → shows R f i ≡ false) → (i : ℕ) → i < R .size → isPure R i (f i) ≡ false
+  shows-none h i l = sym (shows-inside i l) ∙ h i l
+
+  pub least-inside : (r : ℕ) → Least (shows R f) r → r < R .size
+  least-inside r l = ltb-true r (R .size) (and-eq-true-iff (ltb r (R .size)) (isPure R r (f r)) .0 (l .here) .0)
+
+  pub least-pure : (r : ℕ) → Least (shows R f) r → isPure R r (f r) ≡ true
+  least-pure r l = and-eq-true-iff (ltb r (R .size)) (isPure R r (f r)) .0 (l .here) .1
+
+  pub least-below : (r : ℕ) → Least (shows R f) r → (j : ℕ) → j < r → isPure R j (f j) ≡ false
+  least-below r l j h = let b = least-inside r l in sym (shows-inside j (omega arith)) ∙ l .below j h
+
+-- an ID was listed if it was listed on one of the sides
+pub listed-sides : (a : ℕ) (l : List Item) → elem a (ids l) ≡ elem a (oursOf l) || elem a (theirsOf l)
+unfolding elem oursOf theirsOf
+listed-sides a [] = refl
+listed-sides a (ours b ∷ l) =
+    ap (λ (t : Bool). eqb a b || t) (listed-sides a l) ∙ sym (or-assoc (eqb a b) (elem a (oursOf l)) (elem a (theirsOf l)))
+listed-sides a (theirs b ∷ l) = ap (λ (t : Bool). eqb a b || t) (listed-sides a l) ∙ swap (eqb a b) (elem a (oursOf l)) (elem a (theirsOf l))
+  where
+    swap : (x y z : Bool) → x || (y || z) ≡ y || (x || z)
+    swap true true z = refl
+    swap true false z = refl
+    swap false true z = refl
+    swap false false z = refl
+
+-- ---- the invariant of a loop that peels: k more peels may be made
+
+module _ (R : Rule) (f₀ : ℕ → Bucket) where
+  abbrev pub Inv : ℕ → List Item → (ℕ → Bucket) → Type 0
+  Inv k acc f = reading R f₀ ≡ run R k (next R acc f) acc f
+
+  pub inv-start : Inv (R .size) [] f₀
+  unfolding reading
+  inv-start = refl
+
+  pub inv-take : (k : ℕ) (acc : List Item) (f : ℕ → Bucket) (x : Item) → Inv (suc k) acc f → next R acc f ≡ take x → Inv k (x ∷ acc) (remove R x f)
+  unfolding run
+  inv-take k acc f x i e = i ∙ ap (λ (n : Next). run R (suc k) n acc f) e
+
+  pub inv-nothing : (k : ℕ) (acc : List Item) (f : ℕ → Bucket) → Inv k acc f → next R acc f ≡ nothing → reading R f₀ ≡ ended true acc f
+  unfolding run
+  inv-nothing zero acc f i e = i ∙ ap (λ (n : Next). run R zero n acc f) e
+  inv-nothing (suc k) acc f i e = i ∙ ap (λ (n : Next). run R (suc k) n acc f) e
+
+  pub inv-again : (k : ℕ) (acc : List Item) (f : ℕ → Bucket) → Inv k acc f → next R acc f ≡ again → reading R f₀ ≡ ended false acc f
+  unfolding run
+  inv-again zero acc f i e = i ∙ ap (λ (n : Next). run R zero n acc f) e
+  inv-again (suc k) acc f i e = i ∙ ap (λ (n : Next). run R (suc k) n acc f) e
+
+  -- one more peel than there are buckets
+  pub inv-full : (acc : List Item) (f : ℕ → Bucket) (x : Item) → Inv 0 acc f → next R acc f ≡ take x → reading R f₀ ≡ ended false acc f
+  unfolding run
+  inv-full acc f x i e = i ∙ ap (λ (n : Next). run R zero n acc f) e
+
+-- ---- a reading goes by the buckets below the size alone
+
+pub all-zero-cong : (f g : ℕ → Bucket) (n : ℕ) → ((i : ℕ) → i < n → f i ≡ g i) → allZero f n ≡ allZero g n
+unfolding allZero
+all-zero-cong f g zero s = refl
+all-zero-cong f g (suc n) s = ap₂ _&&_ (ap isZero (s n (omega arith))) (all-zero-cong f g n (λ i h. s i (omega arith)))
+
+module _ (R : Rule) where
+  abbrev pub Same : (ℕ → Bucket) → (ℕ → Bucket) → Type 0
+  Same f g = (i : ℕ) → i < R .size → f i ≡ g i
+
+  pub next-cong : (acc : List Item) (f g : ℕ → Bucket) → Same f g → next R acc f ≡ next R acc g
+  unfolding next
+  next-cong acc f g s =
+      ap (λ (o : Option Item). judge o acc) (first-cong (looks R f) (looks R g) 0 (R .size) (λ i l h. ap (look R i) (s i (omega arith))))
+
+  pub remove-cong : (x : Item) (f g : ℕ → Bucket) → Same f g → Same (remove R x f) (remove R x g)
+  unfolding remove
+  remove-cong x f g s i h = ap (λ (b : Bucket). b ⊖ put R x i) (s i h)
+
+  pub record Alike (r q : Outcome) : Type 0 where
+    pub fine : r .fine ≡ q .fine
+    pub listed : r .listed ≡ q .listed
+    pub rest : Same (r .rest) (q .rest)
+
+  pub run-cong : (k : ℕ) (n : Next) (acc : List Item) (f g : ℕ → Bucket) → Same f g → Alike (run R k n acc f) (run R k n acc g)
+  unfolding run
+  run-cong zero nothing acc f g s = record { fine = refl; listed = refl; rest = s }
+  run-cong zero again acc f g s = record { fine = refl; listed = refl; rest = s }
+  run-cong zero (take x) acc f g s = record { fine = refl; listed = refl; rest = s }
+  run-cong (suc k) nothing acc f g s = record { fine = refl; listed = refl; rest = s }
+  run-cong (suc k) again acc f g s = record { fine = refl; listed = refl; rest = s }
+  run-cong (suc k) (take x) acc f g s =
+      rw (next-cong (x ∷ acc) (remove R x f) (remove R x g) (remove-cong x f g s))
+      (run-cong k (next R (x ∷ acc) (remove R x g)) (x ∷ acc) (remove R x f) (remove R x g) (remove-cong x f g s))
+
+  pub reading-cong : (f g : ℕ → Bucket) → Same f g → Alike (reading R f) (reading R g)
+  unfolding reading
+  reading-cong f g s = rw (next-cong [] f g s) (run-cong (R .size) (next R [] g) [] f g s)
+
+  pub verdict-cong : (t : List ℕ) (r q : Outcome) → Alike r q → verdict R t r ≡ verdict R t q
+  unfolding verdict
+  verdict-cong t r q a = rw (a .fine, a .listed, all-zero-cong (r .rest) (q .rest) (R .size) (a .rest))
+
+  -- ---- at most as many items are listed as peels are made
+
+  run-few : (k : ℕ) (n : Next) (acc : List Item) (f : ℕ → Bucket) → length (run R k n acc f .listed) ≤ length acc + k
+  unfolding run
+  run-few zero nothing acc f = omega arith
+  run-few zero again acc f = omega arith
+  run-few zero (take x) acc f = omega arith
+  run-few (suc k) nothing acc f = omega arith
+  run-few (suc k) again acc f = omega arith
+  run-few (suc k) (take x) acc f = omega (arith, run-few k (next R (x ∷ acc) (remove R x f)) (x ∷ acc) (remove R x f))
+
+  pub listed-few : (f : ℕ → Bucket) → length (reading R f .listed) ≤ R .size
+  unfolding reading
+  listed-few f = omega (arith, run-few (R .size) (next R [] f) [] f)

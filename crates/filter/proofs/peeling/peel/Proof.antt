@@ -1,0 +1,367 @@
+-- Before each turn the definition's run from here on is the whole reading, with as many peels to come as there are buckets left (`Peeling`);
+-- each way through the loop is one law of StepLaws. Assumes nothing.
+use mathlib.Core.Path.{_≡_, refl}
+use Prim.Native.Nat.{_+_, _-_, _<_}
+use native.Mathlib.Omega.{arith}
+use lib.IntN.{pos}
+use lib.ListN.{length, getD}
+use mir.Syntax.{w64}
+use mir.Val.{toZ, ofZ}
+use mir.ValLaws.{toZ-ofZ}
+use borrow.Author.Needs.{needs, sfits-of}
+use Rattle.bucket.specs.Columns.{columns}
+use Rattle.bucket.proofs.ColumnLaws.{SameLengths}
+use Rattle.filter.specs.Marks.{Least}
+use Rattle.filter.specs.Steps.{Wide}
+use Rattle.filter.proofs.MarkLaws.{marks-none}
+use Rattle.filter.proofs.SpreadLaws.{sound-any}
+use Rattle.filter.proofs.StepLaws.{
+  Input,
+  State,
+  pureIn,
+  Peeling,
+  Found,
+  peeling-start,
+  peeling-lengths,
+  peeling-wide,
+  peeling-small,
+  peeling-count,
+  peeling-ours,
+  peeling-theirs,
+  peeling-done,
+  least-in,
+  found-one,
+  found-abs,
+  peeling-repeated,
+  peeling-full,
+  peeling-next,
+  bucket-read,
+}
+use Rattle.filter.proofs.peeling.peel.Statement.{statement}
+use Rattle.filter.proofs.peeling.peel.Tie as tie
+
+abbrev Inv-loop : tie.InvT-loop
+Inv-loop tab ids₀ hashes₀ counts₀ ours₀ theirs₀ size salt k n bits₀ heads₀ links₀ seen₀ top₀ m₀ a₀ t₀ ids hashes counts ours theirs bits heads links seen top m a t =
+    Peeling
+    (record { size = size; k = k; salt = salt; columns = columns ids₀ hashes₀ counts₀; ours = ours₀; theirs = theirs₀ })
+    (record {
+      columns = columns ids hashes counts;
+      ours = ours;
+      theirs = theirs;
+      bits = bits;
+      heads = heads;
+      links = links;
+      seen = seen;
+      top = top;
+      made = m;
+      a = a;
+      t = t;
+    })
+
+abbrev μ-loop : tie.MeasureT-loop
+μ-loop tab ids₀ hashes₀ counts₀ ours₀ theirs₀ size salt k n bits₀ heads₀ links₀ seen₀ top₀ m₀ a₀ t₀ ids hashes counts ours theirs bits heads links seen top m a t =
+    size + 1 - m
+
+-- what was given, and what is held before a turn
+
+abbrev input : tie.At-loop Inv-loop μ-loop → Input
+input l =
+    let a = l .before .before .before .before .before .before .before .before .before .before .args in
+    record {
+      size = a .size;
+      k = a .k;
+      salt = a .salt;
+      columns = columns (a .ids .now) (a .hashes .now) (a .counts .now);
+      ours = a .ours .now;
+      theirs = a .theirs .now;
+    }
+
+abbrev state : tie.At-loop Inv-loop μ-loop → State
+state l =
+    let w = l .loop in
+    record {
+      columns = columns (w .ids) (w .hashes) (w .counts);
+      ours = w .ours;
+      theirs = w .theirs;
+      bits = w .bits;
+      heads = w .heads;
+      links = w .links;
+      seen = w .seen;
+      top = w .top;
+      made = w .m;
+      a = w .a;
+      t = w .t;
+    }
+
+lengths : (l : tie.At-loop Inv-loop μ-loop) → SameLengths (state l .columns) (input l .columns)
+lengths l = peeling-lengths (input l) (state l) (l .loop .inv)
+
+wide : (l : tie.At-loop Inv-loop μ-loop) → Wide (input l .size) (state l .columns)
+wide l = peeling-wide (input l) (state l) (l .loop .inv)
+
+same-ours : (l : tie.At-loop Inv-loop μ-loop) → length (state l .ours) ≡ length (input l .ours)
+same-ours l = peeling-ours (input l) (state l) (l .loop .inv)
+
+same-theirs : (l : tie.At-loop Inv-loop μ-loop) → length (state l .theirs) ≡ length (input l .theirs)
+same-theirs l = peeling-theirs (input l) (state l) (l .loop .inv)
+
+-- the bucket found
+
+abbrev turn : tie.After-least Inv-loop μ-loop → tie.At-loop Inv-loop μ-loop
+turn d = d .before .before .before
+
+lowest : (d : tie.After-least Inv-loop μ-loop) → Least (pureIn (input (turn d)) (state (turn d) .columns)) (d .least .result)
+lowest d = d .least .ensures (pureIn (input (turn d)) (state (turn d) .columns)) (turn d .loop .inv .marks)
+
+inside : (d : tie.After-least Inv-loop μ-loop) → d .least .result < input (turn d) .size
+inside d = least-in (input (turn d)) (state (turn d)) (turn d .loop .inv) (d .least .result) (lowest d)
+
+few : (d : tie.After-least Inv-loop μ-loop) → d .least .result < 4096
+few d = omega (arith, inside d, turn d .loop .inv .fit .sound .most)
+
+abbrev head : tie.After-unsalt Inv-loop μ-loop → tie.At-loop Inv-loop μ-loop
+head u = turn (u .before .before .before .before)
+
+-- the count goes through its bits
+abbrev found : (u : tie.After-unsalt Inv-loop μ-loop) → Found (input (head u)) (state (head u))
+found u =
+    let d = u .before .before .before .before in
+    let w = turn d .loop in
+    let b = d .least .result in
+    let count = getD (w .counts) b (pos 0) in
+    record {
+      b = b;
+      x = getD (w .ids) b 0;
+      h = getD (w .hashes) b 0;
+      z = toZ w64 (ofZ w64 count);
+      id = u .unsalt .result;
+      lowest = lowest d;
+      here = bucket-read (w .ids) (w .hashes) (w .counts) b (toZ w64 (ofZ w64 count)) (toZ-ofZ w64 count (sfits-of (u .before .s .given)));
+      fits = omega (arith, u .before .before .before .slice-known5 .given b);
+      un = u .unsalt .ensures;
+    }
+
+-- a turn that was made, back to where its ID was noted
+abbrev noted : tie.After-counts Inv-loop μ-loop → tie.After-enroll Inv-loop μ-loop
+noted c =
+    let taken = c .before .before .before .before .before in
+    let entered = taken .before .before .before .before .before .before .before .before .before in
+    entered .before .before .before .before
+
+survey-requires : tie.Need-survey-requires Inv-loop μ-loop
+survey-requires c κs =
+    let s = c .before .before .before .before .before .before .before .before in
+    (s .pre .0, sound-any (s .args .size) (s .args .k) (s .args .salt) (s .pre .1), s .pre .2, marks-none 64 refl)
+
+loop-holds : tie.Need-loop-holds Inv-loop μ-loop
+loop-holds c =
+    let s = c .before .before .before .before .before .before .before .before .before in
+    let a = s .args in
+    peeling-start
+    (record {
+      size = a .size;
+      k = a .k;
+      salt = a .salt;
+      columns = columns (a .ids .now) (a .hashes .now) (a .counts .now);
+      ours = a .ours .now;
+      theirs = a .theirs .now;
+    })
+    (c .survey .last .1 .1 .1 .1 .0) (c .survey .result) 4096
+    (record { sound = s .pre .1; wide = s .pre .2; ours = s .pre .3; theirs = s .pre .4; small = s .pre .5 }) refl (c .survey .ensures)
+
+least-requires : tie.Need-least-requires Inv-loop μ-loop
+least-requires c κs = c .before .loop-test .taken
+
+mul-x : tie.Need-mul-x Inv-loop μ-loop
+mul-x c = omega (arith, few c)
+
+slice-read-x : tie.Need-slice-read-x Inv-loop μ-loop
+slice-read-x c = omega (arith, inside (c .before), wide (turn (c .before)) .idsums)
+
+mul-h : tie.Need-mul-h Inv-loop μ-loop
+mul-h c = omega (arith, few (c .before))
+
+slice-read-h : tie.Need-slice-read-h Inv-loop μ-loop
+slice-read-h c = omega (arith, inside (c .before .before), wide (turn (c .before .before)) .hashsums)
+
+mul-s : tie.Need-mul-s Inv-loop μ-loop
+mul-s c = omega (arith, few (c .before .before))
+
+slice-copy-out-s : tie.Need-slice-copy-out-s Inv-loop μ-loop
+slice-copy-out-s c = omega (arith, inside (c .before .before), wide (turn (c .before .before)) .counts)
+
+unsalt-requires : tie.Need-unsalt-requires Inv-loop μ-loop
+unsalt-requires c κs = search needs
+
+same-length : tie.Need-same-length Inv-loop μ-loop
+same-length c = lengths (head (c .before)) .0
+
+same-length-2 : tie.Need-same-length-2 Inv-loop μ-loop
+same-length-2 c = lengths (head (c .before)) .1
+
+same-length-3 : tie.Need-same-length-3 Inv-loop μ-loop
+same-length-3 c = lengths (head (c .before)) .2
+
+same-length-4 : tie.Need-same-length-4 Inv-loop μ-loop
+same-length-4 c = same-ours (head (c .before))
+
+same-length-5 : tie.Need-same-length-5 Inv-loop μ-loop
+same-length-5 c = same-theirs (head (c .before))
+
+returns : tie.Need-returns Inv-loop μ-loop
+returns c =
+    let u = c .before in
+    peeling-full (input (head u)) (state (head u)) (head u .loop .inv) (found u) (c .if1 .taken)
+
+enroll-requires : tie.Need-enroll-requires Inv-loop μ-loop
+enroll-requires c κs =
+    let other = c .before .before .before in
+    let p = head (other .before) .loop .inv in
+    (omega (arith, p .few, other .if1 .left, p .fit .sound .most), p .chains)
+
+enter-requires : tie.Need-enter-requires Inv-loop μ-loop
+enter-requires c κs =
+    let other = c .before .before .before .before .before .before .before in
+    let u = other .before in
+    let l = head u in
+    let p = l .loop .inv in
+    let count = peeling-count (input l) (state l) p in (
+      omega (arith, same-ours l, count, p .few, p .fit .ours, other .if1 .left),
+      omega (arith, same-theirs l, count, p .few, p .fit .theirs, other .if1 .left),
+      found-one (input l) (state l) p (found u),
+    )
+
+take-out-requires : tie.Need-take-out-requires Inv-loop μ-loop
+take-out-requires c κs =
+    let entered = c .before .before .before .before .before .before .before .before in
+    let u = entered .before .before .before .before .before .before .before .before .before in
+    let l = head u in
+    let p = l .loop .inv in
+    let s = l .before .before .before .before .before .before .before .before .before .before in (
+      s .pre .0,
+      sound-any (s .args .size) (s .args .k) (s .args .salt) (s .pre .1),
+      wide l,
+      found-abs (input l) (state l) p (found u),
+      peeling-small (input l) (state l) p,
+      p .marks,
+    )
+
+add-m : tie.Need-add-m Inv-loop μ-loop
+add-m c =
+    let p = head (noted c .before .before .before .before .before) .loop .inv in
+    omega (arith, p .few, p .fit .sound .most)
+
+loop-less : tie.Need-loop-less Inv-loop μ-loop
+loop-less c =
+    let other = noted c .before .before .before .before in
+    omega (arith, head (other .before) .loop .inv .few, other .if1 .left)
+
+loop-again : tie.Need-loop-again Inv-loop μ-loop
+loop-again c =
+    let t = c .before .before .before .before .before .take-out in
+    let entered = c .before .before .before .before .before .before .before .before .before .before .before .before .before .before in
+    let e = entered .enter in
+    let r = noted c .enroll in
+    let other = noted c .before .before .before .before in
+    let u = other .before in
+    let l = head u in
+    let p = l .loop .inv in
+    peeling-next (input l) (state l) p (found u)
+    (record {
+      columns = columns (t .last .1 .0) (t .last .1 .1 .0) (t .last .1 .1 .1 .0);
+      ours = e .last .0;
+      theirs = e .last .1 .0;
+      bits = t .last .1 .1 .1 .1 .0;
+      heads = r .last .0;
+      links = r .last .1 .0;
+      seen = r .last .1 .1 .0;
+      top = t .result;
+      made = l .loop .m + 1;
+      a = e .result .ours;
+      t = e .result .theirs;
+    })
+    (r .result) (other .if1 .left) refl (r .ensures) (entered .before .before .before .if2 .taken) (t .ensures .0) (t .ensures .1)
+    (e .ensures (input l .ours) (input l .theirs) (p .acc) (same-ours l) (same-theirs l) (p .listed))
+
+same-length-6 : tie.Need-same-length-6 Inv-loop μ-loop
+same-length-6 c = lengths (head (c .before .before .before .before .before .before)) .0
+
+same-length-7 : tie.Need-same-length-7 Inv-loop μ-loop
+same-length-7 c = lengths (head (c .before .before .before .before .before .before)) .1
+
+same-length-8 : tie.Need-same-length-8 Inv-loop μ-loop
+same-length-8 c = lengths (head (c .before .before .before .before .before .before)) .2
+
+same-length-9 : tie.Need-same-length-9 Inv-loop μ-loop
+same-length-9 c = same-ours (head (c .before .before .before .before .before .before))
+
+same-length-10 : tie.Need-same-length-10 Inv-loop μ-loop
+same-length-10 c = same-theirs (head (c .before .before .before .before .before .before))
+
+returns-2 : tie.Need-returns-2 Inv-loop μ-loop
+returns-2 c =
+    let r = c .before .enroll in
+    let u = c .before .before .before .before .before .before in
+    let l = head u in
+    peeling-repeated (input l) (state l) (l .loop .inv) (found u) (r .result) (r .last .0) (r .last .1 .0) (r .last .1 .1 .0) (r .ensures) (c .if2 .left)
+
+same-length-11 : tie.Need-same-length-11 Inv-loop μ-loop
+same-length-11 c = lengths (c .before) .0
+
+same-length-12 : tie.Need-same-length-12 Inv-loop μ-loop
+same-length-12 c = lengths (c .before) .1
+
+same-length-13 : tie.Need-same-length-13 Inv-loop μ-loop
+same-length-13 c = lengths (c .before) .2
+
+same-length-14 : tie.Need-same-length-14 Inv-loop μ-loop
+same-length-14 c = same-ours (c .before)
+
+same-length-15 : tie.Need-same-length-15 Inv-loop μ-loop
+same-length-15 c = same-theirs (c .before)
+
+returns-3 : tie.Need-returns-3 Inv-loop μ-loop
+returns-3 c =
+    let l = c .before in
+    peeling-done (input l) (state l) (l .loop .inv) (c .loop-test .left)
+
+pub peel-spec : {M : Type 1} → statement M
+peel-spec =
+    tie.close
+    (tie.spec
+    Inv-loop
+    μ-loop
+    survey-requires
+    loop-holds
+    least-requires
+    mul-x
+    slice-read-x
+    mul-h
+    slice-read-h
+    mul-s
+    slice-copy-out-s
+    unsalt-requires
+    same-length
+    same-length-2
+    same-length-3
+    same-length-4
+    same-length-5
+    returns
+    enroll-requires
+    enter-requires
+    take-out-requires
+    add-m
+    loop-less
+    loop-again
+    same-length-6
+    same-length-7
+    same-length-8
+    same-length-9
+    same-length-10
+    returns-2
+    same-length-11
+    same-length-12
+    same-length-13
+    same-length-14
+    same-length-15
+    returns-3)

@@ -1,0 +1,44 @@
+-- Refusals and answers by document 01's numbers, in one place for the whole library.
+--
+--   refusalNumber r     the number of a refusal (document 01, "Refusal numbers"), 0 for none
+--   firstOf ts          the refusal of the first test of ts that does not hold
+--   answerOf r          a reading's answer as numbers: refusal, complete, and the lengths of the two lists
+--
+-- Assumes nothing.
+use mathlib.Core.Bool.{Bool, cond}
+use mathlib.Core.List.{List, [], _∷_}
+use Prim.Native.Nat.{ℕ}
+use Rattle.filter.specs.declared.answers.Refusal.{Refusal}
+use Rattle.filter.specs.declared.answers.Refusal.the-variants.{None, Form, Room, Range, Malformed, OutOfTurn, FalseReading, Breach, Checksum, Swaps, Limit}
+use Rattle.filter.specs.declared.answers.Reading.{Reading}
+use Rattle.filter.specs.declared.answers.Reading.the-variants.{Complete, Stuck, Refused}
+
+abbrev pub refusalNumber : Refusal → ℕ
+refusalNumber None = 0
+refusalNumber Form = 1
+refusalNumber Room = 2
+refusalNumber Range = 3
+refusalNumber Malformed = 4
+refusalNumber OutOfTurn = 5
+refusalNumber FalseReading = 6
+refusalNumber Breach = 7
+refusalNumber Checksum = 8
+refusalNumber Swaps = 9
+refusalNumber Limit = 10
+
+-- tests are tried in the order in which they stand
+abbrev pub firstOf : List (Refusal × Bool) → Refusal
+firstOf [] = None
+firstOf (t ∷ ts) = cond (t .1) (firstOf ts) (t .0)
+
+-- a reading's answer: the refusal's number, 1 for complete, and how many IDs are listed as ours and as theirs
+pub record Answer : Type 0 where
+  pub refusal : ℕ
+  pub complete : ℕ
+  pub ours : ℕ
+  pub theirs : ℕ
+
+abbrev pub answerOf : Reading → Answer
+answerOf (Complete a b) = record { refusal = 0; complete = 1; ours = a; theirs = b }
+answerOf (Stuck a b) = record { refusal = 0; complete = 0; ours = a; theirs = b }
+answerOf (Refused r) = record { refusal = refusalNumber r; complete = 0; ours = 0; theirs = 0 }

@@ -1,0 +1,125 @@
+-- The two calls of this layer (document 01, "Subtraction and reading", "Refusal numbers"): what they answer, and what every lent slice holds after them.
+--
+--   inRange size salt      "A filter has 37 to 4,096 buckets", "Salt is 0 to 63"
+--   areCounts n cs         the first n counts, or as many as there are, lie in 0 to 2^32 − 1
+--   hasRoom n c            each column has at least n places
+--   filled n f c           the columns c with f in their first n buckets
+--   listedInto n l o       the list o with l at its start and zeros behind it up to n
+--   buildCall ..           the filter of a table in three lent columns
+--   readCall ..            ours minus received, peeled
+--
+-- Assumes nothing.
+use mathlib.Core.Bool.{Bool, true, false, _&&_, cond}
+use mathlib.Core.List.{List, [], _∷_, reverse}
+use Prim.Native.Nat.{ℕ, zero, suc, _^_}
+use lib.Dec.{eqb, ltb, leb}
+use lib.IntN.{ℤ, pos, negsuc}
+use lib.ListN.{length, take}
+use Rattle.bucket.specs.Bucket.{Bucket, 𝟎}
+use Rattle.bucket.specs.Columns.{Columns, view, place}
+use Rattle.bucket.specs.Lists.{over, pad}
+use Rattle.filter.specs.declared.answers.Refusal.{Refusal}
+use Rattle.filter.specs.declared.answers.Refusal.the-variants.{Form, Room, Range, FalseReading}
+use Rattle.filter.specs.declared.answers.Verdict.{Verdict}
+use Rattle.filter.specs.declared.answers.Verdict.the-variants.{Complete, Stuck, False}
+use Rattle.filter.specs.Answers.{refusalNumber, firstOf, Answer}
+use Rattle.filter.specs.Table.{idsOf, isTable}
+use Rattle.filter.specs.Filter.{filterRule, oursOf, theirsOf, filterOf, difference}
+use Rattle.filter.specs.Peeling.{Outcome, reading, verdict}
+
+unfoldable pub inRange : ℕ → ℕ → Bool
+inRange size salt = leb 37 size && (leb size 4096 && ltb salt 64)
+
+abbrev pub isCount : ℤ → Bool
+isCount (pos n) = ltb n (2 ^ 32)
+isCount (negsuc n) = false
+
+unfoldable pub allCounts : List ℤ → Bool
+allCounts [] = true
+allCounts (c ∷ cs) = isCount c && allCounts cs
+
+abbrev pub areCounts : ℕ → List ℤ → Bool
+areCounts n cs = allCounts (take n cs)
+
+unfoldable pub hasRoom : ℕ → Columns → Bool
+hasRoom n c = leb n (length (c .idsums)) && (leb n (length (c .hashsums)) && leb n (length (c .counts)))
+
+unfoldable pub filled : ℕ → (ℕ → Bucket) → Columns → Columns
+filled zero f c = c
+filled (suc n) f c = place (filled n f c) n (f n)
+
+unfoldable pub listedInto : ℕ → List ℕ → List ℕ → List ℕ
+listedInto n l o = over 0 (pad n l) o
+
+-- refusals 1 (table), 3, 2
+unfoldable pub buildRefusal : (ℕ → ℕ) → ℕ → ℕ → List ℕ → Columns → Refusal
+buildRefusal derive size salt t c =
+    firstOf ((Form, isTable derive t) ∷ (Range, inRange size salt) ∷ (Room, hasRoom size c) ∷ [])
+
+pub record Build : Type 0 where
+  pub refusal : ℕ
+  pub columns : Columns
+
+abbrev pub built : ℕ → Columns → Build
+built n c = record { refusal = n; columns = c }
+
+-- "the filter made by the rules"; a refusal leaves everything unchanged
+unfoldable pub buildCall : (ℕ → ℕ) → ℕ → ℕ → List ℕ → Columns → Build
+buildCall derive size salt t c =
+    let n = refusalNumber (buildRefusal derive size salt t c) in
+    built n (cond (eqb n 0) (filled size (filterOf (filterRule size salt) (idsOf derive t)) c) c)
+
+-- refusals 1 (table, and a COUNT among the first size places), 3, 2
+unfoldable pub readRefusal : (ℕ → ℕ) → ℕ → ℕ → List ℕ → Columns → List ℕ → List ℕ → Refusal
+readRefusal derive size salt t c o th =
+    firstOf (
+    (Form, isTable derive t && areCounts size (c .counts))
+    ∷ (Range, inRange size salt)
+    ∷ (Room, hasRoom size c && (leb size (length o) && leb size (length th)))
+    ∷ [])
+
+pub record Read : Type 0 where
+  pub answer : Answer
+  pub columns : Columns
+  pub ours : List ℕ
+  pub theirs : List ℕ
+
+abbrev pub answered : Answer → Columns → List ℕ → List ℕ → Read
+answered a c o th = record { answer = a; columns = c; ours = o; theirs = th }
+
+-- a refusal, and what it leaves
+abbrev pub unread : ℕ → Columns → List ℕ → List ℕ → Read
+unread n c o th = answered (record { refusal = n; complete = 0; ours = 0; theirs = 0 }) c o th
+
+-- "Stuck and complete leave the remaining difference in the columns, the lists in peel order, and zero in the lists after their lengths."
+abbrev pub readAs : ℕ → ℕ → Outcome → Columns → List ℕ → List ℕ → Read
+readAs whole size r c o th =
+    answered
+    (record { refusal = 0; complete = whole; ours = length (oursOf (r .listed)); theirs = length (theirsOf (r .listed)) })
+    (filled size (r .rest) c)
+    (listedInto size (reverse (oursOf (r .listed))) o)
+    (listedInto size (reverse (theirsOf (r .listed))) th)
+
+-- refusal 6: "columns and lists all zero", in the first size places
+abbrev pub readFalse : ℕ → Columns → List ℕ → List ℕ → Read
+readFalse size c o th =
+    unread (refusalNumber FalseReading) (filled size (λ i. 𝟎) c) (listedInto size [] o) (listedInto size [] th)
+
+unfoldable pub readWith : Verdict → ℕ → Outcome → Columns → List ℕ → List ℕ → Read
+readWith Complete size r c o th = readAs 1 size r c o th
+readWith Stuck size r c o th = readAs 0 size r c o th
+readWith False size r c o th = readFalse size c o th
+
+-- the peeling of ours minus received
+abbrev pub outcomeOf : (ℕ → ℕ) → ℕ → ℕ → List ℕ → Columns → Outcome
+outcomeOf derive size salt t c = reading (filterRule size salt) (difference (filterRule size salt) (idsOf derive t) (view c))
+
+abbrev pub verdictOf : (ℕ → ℕ) → ℕ → ℕ → List ℕ → Columns → Verdict
+verdictOf derive size salt t c = verdict (filterRule size salt) (idsOf derive t) (outcomeOf derive size salt t c)
+
+unfoldable pub readCall : (ℕ → ℕ) → ℕ → ℕ → List ℕ → Columns → List ℕ → List ℕ → Read
+readCall derive size salt t c o th =
+    let n = refusalNumber (readRefusal derive size salt t c o th) in
+    cond (eqb n 0)
+    (readWith (verdictOf derive size salt t c) size (outcomeOf derive size salt t c) c o th)
+    (unread n c o th)

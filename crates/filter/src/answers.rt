@@ -1,0 +1,64 @@
+// What calls answer, as enums. The definitions of specs/Answers give document 01's number and values for each case.
+ghost use mathlib.Core.Path.{_≡_};
+ghost use Rattle.filter.specs.Answers.{refusalNumber};
+
+// Why a call is refused (document 01, "Refusal numbers"), for every layer.
+pub enum Refusal {
+    // 0: it is not
+    None,
+    // 1: a table, column, state or ledger breaks its form
+    Form,
+    // 2: a lent buffer is too short
+    Room,
+    // 3: a size or salt given by the caller is outside its range
+    Range,
+    // 4: a message is malformed
+    Malformed,
+    // 5: a message is not in the grid, or DONE came too early
+    OutOfTurn,
+    // 6: a filter's reading is false
+    FalseReading,
+    // 7: a message breaks a rule on inquiries, offers, demands or elements
+    Breach,
+    // 8: checksums differ
+    Checksum,
+    // 9: a 17th swap
+    Swaps,
+    // 10: elements held and wanted would pass 4,096
+    Limit,
+}
+
+// How a peeling ends.
+pub enum Verdict {
+    // all three columns are zero, and the listed IDs agree with the table
+    Complete,
+    // no bucket looks pure, and something is not zero
+    Stuck,
+    // a repeated ID, a peel too many, or a listed ID that the table contradicts
+    False,
+}
+
+// What a reading call answers: how the peeling ended, with the lengths of the two lists, or a refusal.
+pub enum Reading {
+    Complete { ours: usize, theirs: usize },
+    Stuck { ours: usize, theirs: usize },
+    Refused(Refusal),
+}
+
+pub fn refusal_number(r: Refusal) -> u32
+    ensures { λ n. ⌜ n ≡ refusalNumber r ⌝ }
+{
+    match r {
+        Refusal::None => 0,
+        Refusal::Form => 1,
+        Refusal::Room => 2,
+        Refusal::Range => 3,
+        Refusal::Malformed => 4,
+        Refusal::OutOfTurn => 5,
+        Refusal::FalseReading => 6,
+        Refusal::Breach => 7,
+        Refusal::Checksum => 8,
+        Refusal::Swaps => 9,
+        Refusal::Limit => 10,
+    }
+}

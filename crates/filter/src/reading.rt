@@ -1,0 +1,140 @@
+// Reading: the received columns become ours minus received, and the difference is peeled.
+ghost use mathlib.Core.Path.{_≡_};
+ghost use mathlib.Core.Bool.{true, _&&_};
+ghost use mathlib.Core.List.{[]};
+ghost use Prim.Native.Nat.{_≤_};
+ghost use lib.Dec.{leb};
+ghost use lib.ListN.{length};
+ghost use Rattle.bucket.specs.Bucket.{𝟎};
+ghost use Rattle.bucket.specs.Columns.{columns, view};
+ghost use Rattle.bucket.specs.Crc.{crcTables};
+ghost use Rattle.filter.specs.Answers.{answerOf};
+ghost use Rattle.filter.specs.Table.{firstEight, idsOf, isTable};
+ghost use Rattle.filter.specs.Filter.{filterRule, difference};
+ghost use Rattle.filter.specs.Calls.{areCounts, hasRoom, filled, listedInto, answered, outcomeOf, readCall};
+ghost use Rattle.filter.specs.Steps.{Ready, Received, Wide, Peels};
+use crate::answers::Reading;
+use crate::answers::Refusal;
+use crate::answers::Verdict;
+use crate::peeling::Peeled;
+
+// Reads the difference of our table and a received filter, at a size and a salt, into two lists: IDs that are only ours, and only theirs.
+// Refused: a bad table or a COUNT outside 0 to 2^32 − 1, then a size or salt out of range, then a column or list shorter than size; then
+// nothing is changed. A false reading is refused too, and leaves zeros. Only the first size places of each slice are judged and written.
+pub fn read(
+    table: &[u8],
+    ids: &mut [u64],
+    hashes: &mut [u32],
+    counts: &mut [i64],
+    ours: &mut [u64],
+    theirs: &mut [u64],
+    size: u32,
+    salt: u32,
+) -> Reading
+    ensures { λ r. ⌜ answered (answerOf r) (columns (now (ids .exit)) (now (hashes .exit)) (now (counts .exit))) (now (ours .exit)) (now (theirs .exit))
+        ≡ readCall firstEight size salt (now (table .entry)) (columns (now (ids .entry)) (now (hashes .entry)) (now (counts .entry))) (now (ours .entry)) (now (theirs .entry)) ⌝ }
+{
+    if !is_well_formed(table, counts, size) {
+        return Reading::Refused(Refusal::Form);
+    }
+    if !crate::forms::in_range(size, salt) {
+        return Reading::Refused(Refusal::Range);
+    }
+    if !has_all_room(ids, hashes, counts, ours, theirs, size) {
+        return Reading::Refused(Refusal::Room);
+    }
+    let p = peel_difference(table, ids, hashes, counts, ours, theirs, size, salt);
+    let a = p.ours;
+    let b = p.theirs;
+    let v = crate::judging::judge(table, ids, hashes, counts, ours, theirs, p.fine, a, b, size);
+    match v {
+        Verdict::Complete => Reading::Complete { ours: a, theirs: b },
+        Verdict::Stuck => Reading::Stuck { ours: a, theirs: b },
+        Verdict::False => {
+            clear_all(ids, hashes, counts, ours, theirs, size as usize);
+            Reading::Refused(Refusal::FalseReading)
+        }
+    }
+}
+
+fn is_well_formed(table: &[u8], counts: &[i64], size: u32) -> bool
+    ensures { λ r. ⌜ r ≡ (isTable firstEight (now (table .entry)) && areCounts size (now (counts .entry))) ⌝ }
+{
+    crate::table::is_table(table) & crate::forms::are_counts(counts, size)
+}
+
+fn has_all_room(
+    ids: &[u64],
+    hashes: &[u32],
+    counts: &[i64],
+    ours: &[u64],
+    theirs: &[u64],
+    size: u32,
+) -> bool
+    ensures { λ r. ⌜ r ≡ (hasRoom size (columns (now (ids .entry)) (now (hashes .entry)) (now (counts .entry)))
+        && (leb size (length (now (ours .entry))) && leb size (length (now (theirs .entry))))) ⌝ }
+{
+    crate::forms::has_room(ids, hashes, counts, size)
+        & crate::forms::lists_have_room(ours, theirs, size)
+}
+
+// The CRC tables are made once a call, and lent down.
+fn peel_difference(
+    table: &[u8],
+    ids: &mut [u64],
+    hashes: &mut [u32],
+    counts: &mut [i64],
+    ours: &mut [u64],
+    theirs: &mut [u64],
+    size: u32,
+    salt: u32,
+) -> Peeled
+    requires { ⌜ Ready size salt (now table) (columns (now ids) (now hashes) (now counts)) (now ours) (now theirs) ⌝ }
+    ensures { λ r. ⌜ Peels size (outcomeOf firstEight size salt (now (table .entry)) (columns (now (ids .entry)) (now (hashes .entry)) (now (counts .entry))))
+        (columns (now (ids .entry)) (now (hashes .entry)) (now (counts .entry))) (listedInto size [] (now (ours .entry))) (listedInto size [] (now (theirs .entry))) (r .fine)
+        (columns (now (ids .exit)) (now (hashes .exit)) (now (counts .exit))) (now (ours .exit)) (now (theirs .exit)) (r .ours) (r .theirs) ⌝ }
+{
+    let tab = bucket::crc::tables();
+    subtract(&tab, table, ids, hashes, counts, size, salt);
+    crate::clearing::clear_list(ours, size as usize);
+    crate::clearing::clear_list(theirs, size as usize);
+    let k = bucket::places::place_count(size);
+    crate::peeling::peel(&tab, ids, hashes, counts, ours, theirs, size, salt, k)
+}
+
+// The received columns become ours minus received: their signs are turned, and our elements added.
+fn subtract(
+    tab: &[u32; 2048],
+    table: &[u8],
+    ids: &mut [u64],
+    hashes: &mut [u32],
+    counts: &mut [i64],
+    size: u32,
+    salt: u32,
+)
+    requires { ⌜ (now tab ≡ crcTables) × Received size salt (now table) (columns (now ids) (now hashes) (now counts)) ⌝ }
+    ensures { λ _. ⌜ columns (now (ids .exit)) (now (hashes .exit)) (now (counts .exit))
+        ≡ filled size (difference (filterRule size salt) (idsOf firstEight (now (table .entry))) (view (columns (now (ids .entry)) (now (hashes .entry)) (now (counts .entry)))))
+        (columns (now (ids .entry)) (now (hashes .entry)) (now (counts .entry))) ⌝ }
+{
+    crate::clearing::negate(counts, size as usize);
+    let k = bucket::places::place_count(size);
+    crate::adding::add_table(tab, table, ids, hashes, counts, size, salt, k);
+}
+
+fn clear_all(
+    ids: &mut [u64],
+    hashes: &mut [u32],
+    counts: &mut [i64],
+    ours: &mut [u64],
+    theirs: &mut [u64],
+    n: usize,
+)
+    requires { ⌜ Wide n (columns (now ids) (now hashes) (now counts)) × (n ≤ length (now ours)) × (n ≤ length (now theirs)) ⌝ }
+    ensures { λ _. ⌜ (columns (now (ids .exit)) (now (hashes .exit)) (now (counts .exit)) ≡ filled n (λ i. 𝟎) (columns (now (ids .entry)) (now (hashes .entry)) (now (counts .entry))))
+        × (now (ours .exit) ≡ listedInto n [] (now (ours .entry))) × (now (theirs .exit) ≡ listedInto n [] (now (theirs .entry))) ⌝ }
+{
+    crate::clearing::clear_columns(ids, hashes, counts, n);
+    crate::clearing::clear_list(ours, n);
+    crate::clearing::clear_list(theirs, n);
+}
