@@ -38,7 +38,10 @@ pub record Answer : Type 0 where
   pub ours : ℕ
   pub theirs : ℕ
 
+abbrev pub answer : ℕ → ℕ → ℕ → ℕ → Answer
+answer n whole a b = record { refusal = n; complete = whole; ours = a; theirs = b }
+
 abbrev pub answerOf : Reading → Answer
-answerOf (Complete a b) = record { refusal = 0; complete = 1; ours = a; theirs = b }
-answerOf (Stuck a b) = record { refusal = 0; complete = 0; ours = a; theirs = b }
-answerOf (Refused r) = record { refusal = refusalNumber r; complete = 0; ours = 0; theirs = 0 }
+answerOf (Complete a b) = answer 0 1 a b
+answerOf (Stuck a b) = answer 0 0 a b
+answerOf (Refused r) = answer (refusalNumber r) 0 0 0

@@ -22,7 +22,7 @@ use Rattle.filter.specs.declared.answers.Refusal.{Refusal}
 use Rattle.filter.specs.declared.answers.Refusal.the-variants.{Form, Room, Range, FalseReading}
 use Rattle.filter.specs.declared.answers.Verdict.{Verdict}
 use Rattle.filter.specs.declared.answers.Verdict.the-variants.{Complete, Stuck, False}
-use Rattle.filter.specs.Answers.{refusalNumber, firstOf, Answer}
+use Rattle.filter.specs.Answers.{refusalNumber, firstOf, Answer, answer}
 use Rattle.filter.specs.Table.{idsOf, isTable}
 use Rattle.filter.specs.Filter.{filterRule, oursOf, theirsOf, filterOf, difference}
 use Rattle.filter.specs.Peeling.{Outcome, reading, verdict}
@@ -89,13 +89,13 @@ answered a c o th = record { answer = a; columns = c; ours = o; theirs = th }
 
 -- a refusal, and what it leaves
 abbrev pub unread : ℕ → Columns → List ℕ → List ℕ → Read
-unread n c o th = answered (record { refusal = n; complete = 0; ours = 0; theirs = 0 }) c o th
+unread n c o th = answered (answer n 0 0 0) c o th
 
 -- "Stuck and complete leave the remaining difference in the columns, the lists in peel order, and zero in the lists after their lengths."
 abbrev pub readAs : ℕ → ℕ → Outcome → Columns → List ℕ → List ℕ → Read
 readAs whole size r c o th =
     answered
-    (record { refusal = 0; complete = whole; ours = length (oursOf (r .listed)); theirs = length (theirsOf (r .listed)) })
+    (answer 0 whole (length (oursOf (r .listed))) (length (theirsOf (r .listed))))
     (filled size (r .rest) c)
     (listedInto size (reverse (oursOf (r .listed))) o)
     (listedInto size (reverse (theirsOf (r .listed))) th)
