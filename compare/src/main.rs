@@ -1,20 +1,38 @@
 //! Compares the proved library with the model on fixed random inputs: exit 0 means no difference.
 
 mod buckets;
+mod building;
+mod chains;
+mod crafted;
+mod differ;
+mod filters;
+mod honest;
 mod known;
+mod known_filters;
 mod library;
+mod malicious;
 mod model;
 mod numbers;
 mod packing;
+mod pool;
+mod quick;
 mod random;
 mod reading;
+mod refused;
+mod sets;
+mod tables;
 
+use filters::End;
 use random::Random;
 use std::fmt::Debug;
 use std::process::exit;
 
 /// Fewer comparisons than this mean that something was left out.
 const LEAST: u64 = 200_000;
+
+/// As do fewer readings of filters (calls that refusals 1 to 3 do not stop), in all or of an end.
+const LEAST_READINGS: u64 = 50_000;
+const LEAST_OF_AN_END: u64 = 200;
 
 /// A shown answer is cut to this many characters.
 const SHOWN: usize = 1200;
@@ -23,6 +41,7 @@ const SHOWN: usize = 1200;
 pub struct Tally {
     subjects: Vec<(&'static str, u64)>,
     seed: u64,
+    ends: Vec<(End, u64)>,
 }
 
 impl Tally {
@@ -33,6 +52,14 @@ impl Tally {
         self.subjects.push((name, 0));
         self.seed = seed;
         Random::new(seed)
+    }
+
+    /// Counts one reading.
+    pub fn read(&mut self, end: End) {
+        match self.ends.iter_mut().find(|(other, _)| *other == end) {
+            Some((_, readings)) => *readings += 1,
+            None => self.ends.push((end, 1)),
+        }
     }
 
     fn tell_last(&self) {
@@ -100,20 +127,39 @@ fn around(text: &str, at: usize) -> String {
 }
 
 fn main() {
-    if let Err(what) = known::check_model() {
+    differ::must_be_there();
+    if let Err(what) = known::check_model().and_then(|()| known_filters::check_model()) {
         println!("the model itself is wrong: {what}");
         exit(1);
     }
     let mut tally = Tally {
         subjects: Vec::new(),
         seed: 0,
+        ends: Vec::new(),
     };
     numbers::compare(&mut tally);
     packing::compare(&mut tally);
     reading::compare(&mut tally);
     buckets::compare(&mut tally);
+    tables::compare(&mut tally);
+    building::compare(&mut tally);
+    refused::compare(&mut tally);
+    honest::compare(&mut tally);
+    malicious::compare(&mut tally);
+    crafted::compare(&mut tally);
+    differ::compare(&mut tally);
 
     tally.tell_last();
+    let readings: u64 = tally.ends.iter().map(|(_, readings)| readings).sum();
+    for (end, readings) in &tally.ends {
+        println!("readings that end {end:?}: {readings}");
+    }
+    println!("{readings} readings");
+    let seldom = tally.ends.iter().any(|&(_, n)| n < LEAST_OF_AN_END);
+    if readings < LEAST_READINGS || tally.ends.len() < 5 || seldom {
+        println!("{LEAST_READINGS} readings are asked for, {LEAST_OF_AN_END} of each end");
+        exit(1);
+    }
     let total: u64 = tally.subjects.iter().map(|(_, compared)| compared).sum();
     if total < LEAST {
         println!("only {total} comparisons, {LEAST} are asked for");

@@ -8,4 +8,3 @@ pub mod Places
 pub mod Bucket
 pub mod Columns
 pub mod Packing
-pub mod Numbers

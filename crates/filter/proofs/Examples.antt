@@ -1,10 +1,10 @@
 -- The supposition of demand 3's second half is not empty: differences that it holds of, with a stopping set and without one,
 -- by running its test over every part and every bucket; and how their readings end. Assumes nothing.
 use mathlib.Core.Path.{_≡_, refl, subst}
-use mathlib.Core.Bool.{Bool, true, not, cond}
+use mathlib.Core.Bool.{Bool, true, not}
 use mathlib.Core.List.{List, [], _∷_, List·Memᴰ}
 use mathlib.Core.List.List·Memᴰ.{List·Memᴰ·head as head}
-use Prim.Native.Nat.{ℕ, _+_, _*_}
+use Prim.Native.Nat.{ℕ}
 use lib.Dec.{eqb}
 use Rattle.bucket.specs.Bucket.{_⊕_, neg, 𝟎, isZero}
 use Rattle.bucket.specs.Crc.{crcOf, crc32, feed, steps}
@@ -31,6 +31,7 @@ use Rattle.filter.specs.Filter.{
   difference,
 }
 use Rattle.filter.specs.Peeling.{first, allZero, fits, isPure, look, remove, next, run, reading, verdict}
+use Rattle.filter.specs.Numbers.{worked}
 use Rattle.filter.specs.Stopping.{differing, Clear, StoppingSet}
 use Rattle.filter.proofs.ClearLaws.{
   parts,
@@ -48,29 +49,15 @@ use Rattle.filter.proofs.ClearLaws.{
   noted-same,
 }
 
--- ---- document 01's worked example, places given: "p and q both {0,1,2}, r {2,3,4}: r is listed, p and q remain"; p = 1, q = 2, r = 3
-
-unfoldable pub given : ℕ → List ℕ
-given a = cond (eqb a 3) (2 ∷ 3 ∷ 4 ∷ []) (0 ∷ 1 ∷ 2 ∷ [])
-
-unfoldable pub worked : Rule
-worked = record { size = 6; code = λ a. a; decode = λ a. a; places = given; check = λ a. a * 7 + 1 }
+-- ---- document 01's worked example, whose reading stands in specs/Numbers: what remains is a stopping set
 
 pub worked-clear : Clear worked (differing (1 ∷ 2 ∷ 3 ∷ []) [])
 worked-clear = clear-of worked (differing (1 ∷ 2 ∷ 3 ∷ []) []) test
   where
     test : clearAll worked (parts (differing (1 ∷ 2 ∷ 3 ∷ []) [])) ≡ true
     test =
-        unfold worked given differing minus select parts clearAll allBelow clearAt isPure load sumAt put touches cell _⊕_ 𝟎 elem
+        unfold differing minus select parts clearAll allBelow clearAt isPure load sumAt put touches cell _⊕_ 𝟎 elem
         isZero in refl
-
-pub worked-lists : oursOf (reading worked (difference worked (1 ∷ 2 ∷ 3 ∷ []) (filterOf worked [])) .listed) ≡ 3 ∷ []
-unfolding worked given reading run next first look isPure difference filterOf sumAt put touches cell remove neg _⊕_ 𝟎 elem oursOf
-worked-lists = refl
-
-pub worked-stuck : verdict worked (1 ∷ 2 ∷ 3 ∷ []) (reading worked (difference worked (1 ∷ 2 ∷ 3 ∷ []) (filterOf worked []))) ≡ Stuck
-unfolding worked given reading run next first look isPure difference filterOf sumAt put touches cell remove neg _⊕_ 𝟎 elem verdict allZero isZero fits
-worked-stuck = refl
 
 pub worked-core : StoppingSet worked (differing (1 ∷ 2 ∷ 3 ∷ []) []) (λ x. not (eqb (idOf x) 3))
 worked-core = record {
@@ -81,7 +68,7 @@ worked-core = record {
 }
   where
     test : allBelow (closedAt worked (select (λ x. not (eqb (idOf x) 3)) (differing (1 ∷ 2 ∷ 3 ∷ []) []))) (worked .size) ≡ true
-    test = unfold worked given differing minus select allBelow closedAt load touches elem in refl
+    test = unfold differing minus select allBelow closedAt load touches elem in refl
 
 -- ---- real places: 37 buckets at salt 0, where the IDs 1 and 2887 have the same places, and 11 shares one of them
 
