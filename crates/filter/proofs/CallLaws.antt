@@ -17,6 +17,7 @@ use Rattle.bucket.proofs.OverLaws.{open-over, over-length}
 use Rattle.bucket.proofs.ListLaws.{pad-length}
 use Rattle.filter.specs.declared.answers.Verdict.{Verdict}
 use Rattle.filter.specs.declared.answers.Verdict.the-variants.{Complete, Stuck, False}
+use Rattle.filter.specs.Answers.{answer}
 use Rattle.filter.specs.Filter.{Item, Rule, rule, oursOf, theirsOf}
 use Rattle.filter.specs.Peeling.{Outcome, allZero, fits, reading, verdictBy, verdict}
 use Rattle.filter.specs.Calls.{inRange, areCounts, hasRoom, filled, listedInto, answered, readAs, readWith, readRefusal, outcomeOf, readCall}
@@ -216,8 +217,8 @@ module _ (size : ℕ) {q : Outcome} {c₀ : Columns} (o₀ t₀ : List ℕ) {fin
 
   -- the answer of a reading that is not false, and what it leaves
   module _ (whole : ℕ) (e : fine ≡ true) where
-    read-listed : answered (record { refusal = 0; complete = whole; ours = a; theirs = b }) c o t ≡ readAs whole size q c₀ o₀ t₀
-    read-listed = λ k. answered (record { refusal = 0; complete = whole; ours = p .listed-is e .ours-count k; theirs = p .listed-is e .theirs-count k })
+    read-listed : answered (answer 0 whole a b) c o t ≡ readAs whole size q c₀ o₀ t₀
+    read-listed = λ k. answered (answer 0 whole (p .listed-is e .ours-count k) (p .listed-is e .theirs-count k))
         (p .rest-is e k) (ours-listed e k) (theirs-listed e k)
 
   module _ (ids : List ℕ) {v : Verdict}
@@ -232,22 +233,22 @@ module _ (size : ℕ) {q : Outcome} {c₀ : Columns} (o₀ t₀ : List ℕ) {fin
         go true k = refl
         go false k = ne (sym h ∙ e ∙ ap (λ (f : Bool). verdictBy f (allZero (view c) size) (every true ids (take a o) && every false ids (take b t))) k)
 
-    pub read-complete : v ≡ Complete → answered (record { refusal = 0; complete = 1; ours = a; theirs = b }) c o t
+    pub read-complete : v ≡ Complete → answered (answer 0 1 a b) c o t
         ≡ readWith (verdictBy (q .fine) (allZero (q .rest) size) (fits ids (q .listed))) size q c₀ o₀ t₀
     unfolding readWith
     read-complete h = read-listed 1 (in-order Complete h (λ x. cc)) ∙ ap (λ (u : Verdict). readWith u size q c₀ o₀ t₀) (judged Complete h)
 
-    pub read-stuck : v ≡ Stuck → answered (record { refusal = 0; complete = 0; ours = a; theirs = b }) c o t
+    pub read-stuck : v ≡ Stuck → answered (answer 0 0 a b) c o t
         ≡ readWith (verdictBy (q .fine) (allZero (q .rest) size) (fits ids (q .listed))) size q c₀ o₀ t₀
     unfolding readWith
     read-stuck h = read-listed 0 (in-order Stuck h (λ x. cc)) ∙ ap (λ (u : Verdict). readWith u size q c₀ o₀ t₀) (judged Stuck h)
 
     pub read-false : v ≡ False → {c′ : Columns} {o′ t′ : List ℕ} → c′ ≡ filled size (λ i. 𝟎) c → o′ ≡ listedInto size [] o → t′ ≡ listedInto size [] t
-        → answered (record { refusal = 6; complete = 0; ours = 0; theirs = 0 }) c′ o′ t′
+        → answered (answer 6 0 0 0) c′ o′ t′
         ≡ readWith (verdictBy (q .fine) (allZero (q .rest) size) (fits ids (q .listed))) size q c₀ o₀ t₀
     unfolding readWith
     read-false h x y z =
-        (λ k. answered (record { refusal = 6; complete = 0; ours = 0; theirs = 0 }) ((x ∙ cleared-columns) k) ((y ∙ cleared-ours) k) ((z ∙ cleared-theirs) k))
+        (λ k. answered (answer 6 0 0 0) ((x ∙ cleared-columns) k) ((y ∙ cleared-ours) k) ((z ∙ cleared-theirs) k))
         ∙ ap (λ (u : Verdict). readWith u size q c₀ o₀ t₀) (judged False h)
 
 -- ---- the call as a whole

@@ -11,7 +11,8 @@ use Prim.Native.Nat.{ℕ}
 use Rattle.filter.specs.declared.answers.Refusal.{Refusal}
 use Rattle.filter.specs.declared.answers.Refusal.the-variants.{None, Form, Room, Range, Malformed, OutOfTurn, FalseReading, Breach, Checksum, Swaps, Limit}
 use Rattle.filter.specs.declared.answers.Reading.{Reading}
-use Rattle.filter.specs.declared.answers.Reading.the-variants.{Complete, Stuck, Refused}
+use Rattle.filter.specs.declared.answers.Reading.the-variants.{Complete, Stuck, BadForm, BadRange, NoRoom, Untrue}
+use Rattle.filter.specs.declared.answers.Answer.{Answer}
 
 abbrev pub refusalNumber : Refusal → ℕ
 refusalNumber None = 0
@@ -32,16 +33,13 @@ firstOf [] = None
 firstOf (t ∷ ts) = cond (t .1) (firstOf ts) (t .0)
 
 -- a reading's answer: the refusal's number, 1 for complete, and how many IDs are listed as ours and as theirs
-pub record Answer : Type 0 where
-  pub refusal : ℕ
-  pub complete : ℕ
-  pub ours : ℕ
-  pub theirs : ℕ
-
 abbrev pub answer : ℕ → ℕ → ℕ → ℕ → Answer
 answer n whole a b = record { refusal = n; complete = whole; ours = a; theirs = b }
 
 abbrev pub answerOf : Reading → Answer
 answerOf (Complete a b) = answer 0 1 a b
 answerOf (Stuck a b) = answer 0 0 a b
-answerOf (Refused r) = answer (refusalNumber r) 0 0 0
+answerOf BadForm = answer (refusalNumber Form) 0 0 0
+answerOf BadRange = answer (refusalNumber Range) 0 0 0
+answerOf NoRoom = answer (refusalNumber Room) 0 0 0
+answerOf Untrue = answer (refusalNumber FalseReading) 0 0 0

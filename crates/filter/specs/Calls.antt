@@ -20,9 +20,10 @@ use Rattle.bucket.specs.Columns.{Columns, view, place}
 use Rattle.bucket.specs.Lists.{over, pad}
 use Rattle.filter.specs.declared.answers.Refusal.{Refusal}
 use Rattle.filter.specs.declared.answers.Refusal.the-variants.{Form, Room, Range, FalseReading}
+use Rattle.filter.specs.declared.answers.Answer.{Answer}
 use Rattle.filter.specs.declared.answers.Verdict.{Verdict}
 use Rattle.filter.specs.declared.answers.Verdict.the-variants.{Complete, Stuck, False}
-use Rattle.filter.specs.Answers.{refusalNumber, firstOf, Answer, answer}
+use Rattle.filter.specs.Answers.{refusalNumber, firstOf, answer}
 use Rattle.filter.specs.Table.{idsOf, isTable}
 use Rattle.filter.specs.Filter.{filterRule, oursOf, theirsOf, filterOf, difference}
 use Rattle.filter.specs.Peeling.{Outcome, reading, verdict}

@@ -1,6 +1,6 @@
 // What calls answer, as enums. The definitions of specs/Answers give document 01's number and values for each case.
 ghost use mathlib.Core.Path.{_≡_};
-ghost use Rattle.filter.specs.Answers.{refusalNumber};
+ghost use Rattle.filter.specs.Answers.{refusalNumber, answer, answerOf};
 
 // Why a call is refused (document 01, "Refusal numbers"), for every layer.
 pub enum Refusal {
@@ -38,11 +38,27 @@ pub enum Verdict {
     False,
 }
 
-// What a reading call answers: how the peeling ended, with the lengths of the two lists, or a refusal.
+// What a reading call answers: how the peeling ended, with the lengths of the two lists, or why it is refused.
 pub enum Reading {
     Complete { ours: usize, theirs: usize },
     Stuck { ours: usize, theirs: usize },
-    Refused(Refusal),
+    // the table is none, or a COUNT is out of range
+    BadForm,
+    // the size or the salt is out of range
+    BadRange,
+    // a column or list is too short
+    NoRoom,
+    // the reading is false
+    Untrue,
+}
+
+// The same in numbers: the refusal's, 1 for complete, and how many IDs are listed as ours and as theirs.
+#[repr(C)]
+pub struct Answer {
+    pub refusal: u32,
+    pub complete: u32,
+    pub ours: usize,
+    pub theirs: usize,
 }
 
 pub fn refusal_number(r: Refusal) -> u32
@@ -60,5 +76,39 @@ pub fn refusal_number(r: Refusal) -> u32
         Refusal::Checksum => 8,
         Refusal::Swaps => 9,
         Refusal::Limit => 10,
+    }
+}
+
+pub fn numbers(r: Reading) -> Answer
+    ensures { λ n. ⌜ n ≡ answerOf r ⌝ }
+{
+    match r {
+        Reading::Complete { ours, theirs } => Answer {
+            refusal: 0,
+            complete: 1,
+            ours: ours,
+            theirs: theirs,
+        },
+        Reading::Stuck { ours, theirs } => Answer {
+            refusal: 0,
+            complete: 0,
+            ours: ours,
+            theirs: theirs,
+        },
+        Reading::BadForm => refused(Refusal::Form),
+        Reading::BadRange => refused(Refusal::Range),
+        Reading::NoRoom => refused(Refusal::Room),
+        Reading::Untrue => refused(Refusal::FalseReading),
+    }
+}
+
+fn refused(why: Refusal) -> Answer
+    ensures { λ n. ⌜ n ≡ answer (refusalNumber why) 0 0 0 ⌝ }
+{
+    Answer {
+        refusal: refusal_number(why),
+        complete: 0,
+        ours: 0,
+        theirs: 0,
     }
 }

@@ -14,7 +14,6 @@ ghost use Rattle.filter.specs.Filter.{filterRule, difference};
 ghost use Rattle.filter.specs.Calls.{areCounts, hasRoom, filled, listedInto, answered, outcomeOf, readCall};
 ghost use Rattle.filter.specs.Steps.{Ready, Received, Wide, Peels};
 use crate::answers::Reading;
-use crate::answers::Refusal;
 use crate::answers::Verdict;
 use crate::peeling::Peeled;
 
@@ -35,13 +34,13 @@ pub fn read(
         ≡ readCall firstEight size salt (now (table .entry)) (columns (now (ids .entry)) (now (hashes .entry)) (now (counts .entry))) (now (ours .entry)) (now (theirs .entry)) ⌝ }
 {
     if !is_well_formed(table, counts, size) {
-        return Reading::Refused(Refusal::Form);
+        return Reading::BadForm;
     }
     if !crate::forms::in_range(size, salt) {
-        return Reading::Refused(Refusal::Range);
+        return Reading::BadRange;
     }
     if !has_all_room(ids, hashes, counts, ours, theirs, size) {
-        return Reading::Refused(Refusal::Room);
+        return Reading::NoRoom;
     }
     let p = peel_difference(table, ids, hashes, counts, ours, theirs, size, salt);
     let a = p.ours;
@@ -52,7 +51,7 @@ pub fn read(
         Verdict::Stuck => Reading::Stuck { ours: a, theirs: b },
         Verdict::False => {
             clear_all(ids, hashes, counts, ours, theirs, size as usize);
-            Reading::Refused(Refusal::FalseReading)
+            Reading::Untrue
         }
     }
 }

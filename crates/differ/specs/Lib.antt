@@ -1,0 +1,3 @@
+-- The definitions of the program `differ`.
+pub mod Text
+pub mod Report
