@@ -1,0 +1,82 @@
+/* Every constant of include/tandawire.h, held to what the compiled library does. Compiles as C11 and as C++17; silent, exit 0, if all agree. */
+#include "../include/tandawire.h"
+
+#include <stdio.h>
+#include <stdlib.h>
+#include <string.h>
+
+enum { ROOM = TANDAWIRE_MOST_SIZE + 1 };
+
+static uint8_t table[(TANDAWIRE_MOST_ELEMENTS + 1) * TANDAWIRE_HASH_BYTES];
+static uint64_t ids[ROOM], ours[ROOM], theirs[ROOM];
+static uint32_t hashes[ROOM];
+static int64_t counts[ROOM];
+
+static void expect(const char *what, size_t got, size_t wanted)
+{
+    if (got != wanted) {
+        fprintf(stderr, "header: %s: got %zu, wanted %zu\n", what, got, wanted);
+        exit(1);
+    }
+}
+
+/* The hashes 0, 1, 2, .. by their first eight bytes. */
+static void fill_table(void)
+{
+    for (size_t i = 0; i <= TANDAWIRE_MOST_ELEMENTS; i++)
+        for (int b = 0; b < 8; b++)
+            table[i * TANDAWIRE_HASH_BYTES + (size_t)b] = (uint8_t)((uint64_t)i >> (56 - 8 * b));
+}
+
+static uint32_t build_filter(size_t bytes, size_t room, uint32_t size, uint32_t salt)
+{
+    return tandawire_build(table, bytes, ids, room, hashes, room, counts, room, size, salt);
+}
+
+static tandawire_reading read_filter(size_t bytes, size_t room, uint32_t size, uint32_t salt)
+{
+    return tandawire_read(table, bytes, ids, room, hashes, room, counts, room, ours, room, theirs, room, size, salt);
+}
+
+int main(void)
+{
+    const size_t all = (size_t)TANDAWIRE_MOST_ELEMENTS * TANDAWIRE_HASH_BYTES;
+    fill_table();
+
+    expect("build, most elements", build_filter(all, ROOM, TANDAWIRE_MOST_SIZE, 0), TANDAWIRE_REFUSED_NONE);
+    expect("build, one element more", build_filter(all + TANDAWIRE_HASH_BYTES, ROOM, TANDAWIRE_MOST_SIZE, 0), TANDAWIRE_REFUSED_FORM);
+    expect("build, a broken hash", build_filter(TANDAWIRE_HASH_BYTES + 1, ROOM, TANDAWIRE_MOST_SIZE, 0), TANDAWIRE_REFUSED_FORM);
+    expect("build, least size", build_filter(all, ROOM, TANDAWIRE_LEAST_SIZE, 0), TANDAWIRE_REFUSED_NONE);
+    expect("build, below it", build_filter(all, ROOM, TANDAWIRE_LEAST_SIZE - 1, 0), TANDAWIRE_REFUSED_RANGE);
+    expect("build, above most size", build_filter(all, ROOM, TANDAWIRE_MOST_SIZE + 1, 0), TANDAWIRE_REFUSED_RANGE);
+    expect("build, most salt", build_filter(all, ROOM, TANDAWIRE_LEAST_SIZE, TANDAWIRE_MOST_SALT), TANDAWIRE_REFUSED_NONE);
+    expect("build, above it", build_filter(all, ROOM, TANDAWIRE_LEAST_SIZE, TANDAWIRE_MOST_SALT + 1), TANDAWIRE_REFUSED_RANGE);
+    expect("build, short columns", build_filter(all, 100, 101, 0), TANDAWIRE_REFUSED_ROOM);
+    expect("build, null for nothing", tandawire_build(NULL, 0, NULL, 0, NULL, 0, NULL, 0, TANDAWIRE_LEAST_SIZE, 0), TANDAWIRE_REFUSED_ROOM);
+
+    /* Two elements of ours against an empty filter: complete, both listed, in the struct's order of fields. */
+    memset(ids, 0, sizeof ids);
+    memset(hashes, 0, sizeof hashes);
+    memset(counts, 0, sizeof counts);
+    tandawire_reading r = read_filter(2 * TANDAWIRE_HASH_BYTES, ROOM, 101, 0);
+    expect("read, refusal", r.refusal, TANDAWIRE_REFUSED_NONE);
+    expect("read, complete", r.complete, 1);
+    expect("read, ours", r.ours, 2);
+    expect("read, theirs", r.theirs, 0);
+
+    /* A filter that takes one of them as theirs and not ours contradicts the table. */
+    expect("build, one", build_filter(TANDAWIRE_HASH_BYTES, ROOM, 101, 0), TANDAWIRE_REFUSED_NONE);
+    for (size_t i = 0; i < 101; i++) {
+        counts[i] *= 2;
+        ids[i] = 0;
+        hashes[i] = 0;
+    }
+    r = read_filter(TANDAWIRE_HASH_BYTES, ROOM, 101, 0);
+    expect("read, refusal of a false one", r.refusal, TANDAWIRE_REFUSED_FALSE);
+    expect("read, nothing listed then", r.ours + r.theirs + r.complete, 0);
+    counts[0] = -1;
+    expect("read, a count below 0", read_filter(0, ROOM, 101, 0).refusal, TANDAWIRE_REFUSED_FORM);
+    counts[0] = 0;
+    expect("read, short lists", tandawire_read(table, 0, ids, 101, hashes, 101, counts, 101, ours, 100, theirs, 101, 101, 0).refusal, TANDAWIRE_REFUSED_ROOM);
+    return 0;
+}
