@@ -1,0 +1,180 @@
+/* How often a reading by the library is complete, stuck or false, for random tables.
+ *
+ *   rates           the table, 4,000 trials a line
+ *   rates TRIALS    the same with so many
+ *
+ * A line is a difference, all of it ours or half and half, and a filter of ratio times as many
+ * buckets: once the nearest odd number, once the next power of two, each within 37 to 4,096.
+ * All lines of a difference see the same tables. The seed is fixed; the salt goes from 0 to 63.
+ */
+#include <stdint.h>
+#include <stdio.h>
+#include <stdlib.h>
+#include <string.h>
+
+#include "../include/tandawire.h"
+
+enum { LEAST = 37, MOST = 4096, SALTS = 64, HASH = 64, COMMON = 100, TRIALS = 4000 };
+
+static const uint32_t differences[] = {10, 50, 100, 200, 500, 1000, 2000};
+static const uint32_t hundredths[] = {120, 150, 200, 300, 400, 500};
+enum {
+    DIFFERENCES = sizeof differences / sizeof differences[0],
+    RATIOS = sizeof hundredths / sizeof hundredths[0],
+};
+
+static uint64_t state = 88172645463325252u;
+
+static uint64_t draw(void)
+{
+    state ^= state << 13;
+    state ^= state >> 7;
+    state ^= state << 17;
+    return state;
+}
+
+static int compare(const void *a, const void *b)
+{
+    uint64_t x = *(const uint64_t *)a, y = *(const uint64_t *)b;
+    return (x > y) - (x < y);
+}
+
+/* Building and reading look at the first eight bytes of a hash alone; the rest stays zero. */
+static uint8_t ours[MOST * HASH], theirs[MOST * HASH];
+static size_t ours_length, theirs_length;
+
+/* The number and the XOR of the IDs in one table alone, by which a list is judged. */
+static size_t alone[2];
+static uint64_t sum[2];
+
+static void add(uint8_t *table, size_t *length, uint64_t id)
+{
+    for (int i = 0; i < 8; i++)
+        table[*length + i] = (uint8_t)(id >> (56 - 8 * i));
+    *length += HASH;
+}
+
+/* Random tables: COMMON hashes in both, and so many in one alone. */
+static void make(size_t only_ours, size_t only_theirs)
+{
+    static uint64_t ids[MOST];
+    size_t number = COMMON + only_ours + only_theirs;
+    size_t give[3] = {only_ours, only_theirs, COMMON};
+    for (size_t i = 0; i < number; i++)
+        ids[i] = draw();
+    qsort(ids, number, sizeof ids[0], compare);
+    ours_length = theirs_length = 0;
+    sum[0] = sum[1] = 0;
+    alone[0] = only_ours;
+    alone[1] = only_theirs;
+    for (size_t i = 0; i < number; i++) {
+        size_t at = draw() % (number - i);
+        int side = at < give[0] ? 0 : at < give[0] + give[1] ? 1 : 2;
+        give[side]--;
+        if (side != 1)
+            add(ours, &ours_length, ids[i]);
+        if (side != 0)
+            add(theirs, &theirs_length, ids[i]);
+        if (side != 2)
+            sum[side] ^= ids[i];
+    }
+}
+
+enum { COMPLETE, STUCK, FALSE, WRONG, ENDS };
+
+/* One exchange. Wrong: refused otherwise, or complete with lists that are not the difference. */
+static int end_of(uint32_t size, uint32_t salt)
+{
+    static uint64_t ids[MOST], list[2][MOST];
+    static uint32_t hashes[MOST];
+    static int64_t counts[MOST];
+    uint64_t left[2] = {sum[0], sum[1]};
+    if (tandawire_build(theirs, theirs_length, ids, MOST, hashes, MOST, counts, MOST, size, salt))
+        return WRONG;
+    tandawire_reading r = tandawire_read(ours, ours_length, ids, MOST, hashes, MOST, counts, MOST,
+                                         list[0], MOST, list[1], MOST, size, salt);
+    if (r.refusal == 6)
+        return FALSE;
+    if (r.refusal != 0)
+        return WRONG;
+    if (!r.complete)
+        return STUCK;
+    for (size_t i = 0; i < r.ours; i++)
+        left[0] ^= list[0][i];
+    for (size_t i = 0; i < r.theirs; i++)
+        left[1] ^= list[1][i];
+    if (r.ours != alone[0] || r.theirs != alone[1] || left[0] != 0 || left[1] != 0)
+        return WRONG;
+    return COMPLETE;
+}
+
+static uint32_t nearest_odd(uint32_t hundred_times)
+{
+    uint32_t size = hundred_times / 200 * 2 + 1;
+    return size < LEAST ? LEAST : size > MOST ? MOST - 1 : size;
+}
+
+static uint32_t next_power(uint32_t hundred_times)
+{
+    uint32_t size = 64;
+    while (size < MOST && size * 100 < hundred_times)
+        size *= 2;
+    return size;
+}
+
+static void print(const unsigned ends[ENDS], uint32_t size, uint32_t d, unsigned trials)
+{
+    printf("  %6lu %5.2f %6.1f %6.1f %6.1f", (unsigned long)size, (double)size / d,
+           100.0 * ends[COMPLETE] / trials, 100.0 * ends[STUCK] / trials,
+           100.0 * ends[FALSE] / trials);
+}
+
+int main(int argc, char **argv)
+{
+    unsigned trials = argc == 2 ? (unsigned)strtoul(argv[1], NULL, 10) : TRIALS, wrong = 0;
+    if (argc > 2 || trials == 0) {
+        fputs("use: rates, or rates TRIALS\n", stderr);
+        return 2;
+    }
+    printf("%u trials a line, %d common elements; per cent complete, stuck and false\n\n", trials,
+           COMMON);
+    printf("%6s %5s %5s  %33s  %33s\n", "", "", "", "nearest odd size", "power of two above");
+    printf("%6s %5s %5s", "ours", "th.", "ratio");
+    for (int i = 0; i < 2; i++)
+        printf("  %6s %5s %6s %6s %6s", "size", "/ d", "compl.", "stuck", "false");
+    putchar('\n');
+    for (int i = 0; i < DIFFERENCES; i++)
+        for (uint32_t halves = 0; halves < 2; halves++) {
+            uint32_t d = differences[i], only_theirs = halves ? d / 2 : 0, size[RATIOS][2];
+            unsigned ends[RATIOS][2][ENDS];
+            memset(ends, 0, sizeof ends);
+            for (int r = 0; r < RATIOS; r++) {
+                size[r][0] = nearest_odd(d * hundredths[r]);
+                size[r][1] = next_power(d * hundredths[r]);
+            }
+            for (unsigned trial = 0; trial < trials; trial++) {
+                make(d - only_theirs, only_theirs);
+                /* Sizes do not fall from line to line, so equal ones are neighbours. */
+                for (int k = 0; k < 2; k++)
+                    for (int r = 0, end = 0; r < RATIOS; r++) {
+                        if (r == 0 || size[r][k] != size[r - 1][k])
+                            end = end_of(size[r][k], trial % SALTS);
+                        ends[r][k][end]++;
+                        wrong += end == WRONG;
+                    }
+            }
+            for (int r = 0; r < RATIOS; r++) {
+                if (r > 0 && size[r][0] == size[r - 1][0] && size[r][1] == size[r - 1][1])
+                    continue;
+                printf("%6lu %5lu %5.2f", (unsigned long)(d - only_theirs),
+                       (unsigned long)only_theirs, hundredths[r] / 100.0);
+                print(ends[r][0], size[r][0], d, trials);
+                print(ends[r][1], size[r][1], d, trials);
+                putchar('\n');
+            }
+            putchar('\n');
+            fflush(stdout);
+        }
+    printf("complete with wrong lists, or refused otherwise: %u\n", wrong);
+    return wrong != 0;
+}
