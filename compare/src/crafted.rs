@@ -1,5 +1,5 @@
-//! Comparisons of readings that chance hardly brings: slips chosen by their places, so that count
-//! and hash mislead, or a slip comes back late.
+//! Comparisons of readings that chance hardly brings: elements chosen by their places, so that count
+//! and hash mislead, or an element comes back late.
 
 use crate::chains::long_chains;
 use crate::filters::{self, End, Filter};
@@ -19,7 +19,7 @@ pub fn compare(tally: &mut Tally) {
         twins(tally, &mut random, pool);
         two_and_one(tally, &mut random, pool);
     }
-    let mut random = tally.subject("slips that come back", 0x71);
+    let mut random = tally.subject("elements that come back", 0x71);
     for pool in &pools {
         come_back(tally, &mut random, pool);
     }
@@ -71,7 +71,7 @@ fn two_and_one(tally: &mut Tally, random: &mut Random, pool: &Pool) {
                     .collect()
             }
             _ => {
-                // They share one, and it is a place of the slip that they look like.
+                // They share one, and it is a place of the element that they look like.
                 let mut keys;
                 loop {
                     keys = [0; 3].map(|_| random.pick(&pool.keys));
@@ -105,7 +105,7 @@ fn two_and_one(tally: &mut Tally, random: &mut Random, pool: &Pool) {
     assert!(ends[End::Stuck as usize] > 100, "{ends:?}");
 }
 
-/// A slip is listed, others follow, and only then it would be listed again: on the other side or
+/// An element is listed, others follow, and only then it would be listed again: on the other side or
 /// on the same. Whoever overlooks that is left stuck.
 fn come_back(tally: &mut Tally, random: &mut Random, pool: &Pool) {
     let mut repeated = 0;
@@ -125,7 +125,7 @@ fn come_back(tally: &mut Tally, random: &mut Random, pool: &Pool) {
     assert!(repeated > 350, "{repeated} at size {}", pool.size);
 }
 
-/// The same with so many honest slips beside that the list is long before it comes to that.
+/// The same with so many honest elements beside that the list is long before it comes to that.
 fn come_back_late(tally: &mut Tally, random: &mut Random, pool: &Pool) {
     let mut tried = 0;
     for i in 0..200 {

@@ -107,7 +107,7 @@ fn input(size: usize, counts: [usize; 2], tables: [&[u8]; 2]) -> Vec<u8> {
     [&input[..], tables[0], tables[1]].concat()
 }
 
-/// Two tables with so many slips in both, in the first alone, and in the second alone.
+/// Two tables with so many elements in both, in the first alone, and in the second alone.
 fn two(random: &mut Random, [common, ours, theirs]: [usize; 3]) -> [Vec<u8>; 2] {
     let mut ids = some_ids(random, common + ours + theirs);
     let theirs = ids.split_off(common + ours);

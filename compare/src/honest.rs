@@ -11,7 +11,7 @@ pub fn compare(tally: &mut Tally) {
     large(tally);
 }
 
-/// Reads the filter of one set against the table of another: so many slips are in both, in the
+/// Reads the filter of one set against the table of another: so many elements are in both, in the
 /// table alone, and in the far set alone.
 fn one(
     tally: &mut Tally,
@@ -50,7 +50,7 @@ fn small(tally: &mut Tally) {
         let size = some_size(random, 150);
         let salt = some_salt(random);
         let common = random.pick(&[0, 0, 1, 5, 20, 60]);
-        // Around what a filter can tell apart: eight slips for ten buckets.
+        // Around what a filter can tell apart: eight elements for ten buckets.
         let most = random
             .pick(&[4, size / 2, size * 4 / 5, size, size * 5 / 4])
             .into();

@@ -39,8 +39,8 @@ impl Plan {
         }
     }
 
-    /// A small table, or one with several slips in each bucket: there a bucket can be sent with
-    /// fewer slips than ours has, so that the difference counts 1 whatever its ID is.
+    /// A small table, or one with several elements in each bucket: there a bucket can be sent with
+    /// fewer elements than ours has, so that the difference counts 1 whatever its ID is.
     pub fn any(random: &mut Random) -> Plan {
         let size = some_size(random, 80);
         let n = match random.below(5) {
@@ -96,7 +96,7 @@ impl Plan {
             3 => hashes[bucket] ^= 1 << random.below(32),
             4 => ids[bucket] ^= 1 << random.below(64),
             5 => {
-                // A slip with its hash where it most likely has no place.
+                // An element with its hash where it most likely has no place.
                 ids[bucket] ^= any;
                 hashes[bucket] ^= quick::crc(any);
                 counts[bucket] -= 1;
@@ -183,7 +183,7 @@ fn contradictions(tally: &mut Tally) {
     assert!(ends[End::Stuck as usize] > 2_000, "{ends:?}");
 }
 
-/// Columns of anything: full, or bucket by bucket nothing, a lone slip, or anything.
+/// Columns of anything: full, or bucket by bucket nothing, a lone element, or anything.
 fn random_columns(tally: &mut Tally) {
     let mut random = tally.subject("random columns", 0x62);
     let random = &mut random;
@@ -204,7 +204,7 @@ fn random_columns(tally: &mut Tally) {
                 }
                 1 => received.put_at(bucket, key, 1),
                 2 => {
-                    // A slip that has a place here.
+                    // An element that has a place here.
                     while !quick::places(key, size).contains(&bucket) {
                         key = random.next();
                     }

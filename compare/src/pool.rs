@@ -1,4 +1,4 @@
-//! Slips found by their places, for readings that chance hardly brings.
+//! Elements found by their places, for readings that chance hardly brings.
 
 use crate::filters;
 use crate::malicious::Plan;
@@ -41,7 +41,7 @@ impl Pool {
         }
     }
 
-    /// A slip with these two places, and its third.
+    /// An element with these two places, and its third.
     pub fn with_two(&self, random: &mut Random, mut two: [u32; 2]) -> (u64, u32) {
         two.sort_unstable();
         let key = random.pick(&self.by_two[&two]);
@@ -50,13 +50,13 @@ impl Pool {
         (key, third.expect("three are distinct"))
     }
 
-    /// All slips with these three places.
+    /// All elements with these three places.
     pub fn with_three(&self, mut three: [u32; 3]) -> &[u64] {
         three.sort_unstable();
         self.by_three.get(&three).map_or(&[], |keys| keys)
     }
 
-    /// Slips that share their three places with a random one, itself among them.
+    /// Elements that share their three places with a random one, itself among them.
     pub fn alike(&self, random: &mut Random, n: usize) -> Vec<u64> {
         loop {
             let key = random.pick(&self.keys);
@@ -68,7 +68,7 @@ impl Pool {
         }
     }
 
-    /// A plan in whose table these slips (salted) and n others stand.
+    /// A plan in whose table these elements (salted) and n others stand.
     pub fn plan(&self, random: &mut Random, keys: &[u64], n: usize) -> Plan {
         let mut plan = Plan::new(random, self.size, n);
         let unsalted = keys.iter().map(|&key| model::unsalt(key, plan.salt));

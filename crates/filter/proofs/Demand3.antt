@@ -7,6 +7,7 @@
 -- difference less its largest knot, if there is one, each ID once and on its right side. It is called complete exactly when there is no knot,
 -- and otherwise stuck."
 --
+-- demand-3: both, at document 01's derivation of IDs, which the exported call has. The two are stated over any derivation of 64 bits.
 -- "a reading is document 01's peeling, order and all" is the contract itself: readCall is stated by `reading` and `verdict` of specs/Peeling.
 -- A knot is a stopping set (specs/Stopping). proofs/Examples shows differences that the supposition holds of, with a knot and without.
 -- Assumes nothing.
@@ -25,7 +26,7 @@ use Rattle.filter.specs.declared.answers.Refusal.the-variants.{None}
 use Rattle.filter.specs.declared.answers.Verdict.{Verdict}
 use Rattle.filter.specs.declared.answers.Verdict.the-variants.{Complete, Stuck, False}
 use Rattle.filter.specs.Lists.{minus}
-use Rattle.filter.specs.Table.{idsOf}
+use Rattle.filter.specs.Table.{firstEight, idsOf}
 use Rattle.filter.specs.Filter.{Item, ids, oursOf, theirsOf, Rule, filterRule, filterOf, difference}
 use Rattle.filter.specs.Peeling.{Outcome}
 use Rattle.filter.specs.Stopping.{differing, Clear, Exactly}
@@ -36,7 +37,7 @@ use Rattle.filter.proofs.SumLaws.{filter-append, filter-reverse}
 use Rattle.filter.proofs.SoundLaws.{sound, reading-distinct}
 use Rattle.filter.proofs.LeftLaws.{Fair}
 use Rattle.filter.proofs.ExactLaws.{Placed, isComplete, exactly, never-false}
-use Rattle.filter.proofs.IdLaws.{ids-distinct, fair, placed}
+use Rattle.filter.proofs.IdLaws.{ids-distinct, first-eight-below, fair, placed}
 use Rattle.filter.proofs.GrantedLaws.{granted-table, granted-size, granted-read, complete-granted, listed-back}
 
 -- the IDs that a call lists: the first part of each list, up to the length that it answers
@@ -71,12 +72,14 @@ module _ (R : Rule) where
 
 -- ---- first half
 
-pub complete-trusted : (derive : ℕ → ℕ) (size salt : ℕ) (t : List ℕ) (c : Columns) (o th : List ℕ)
-    → let m = readCall derive size salt t c o th in
-    m .answer .refusal ≡ 0 → m .answer .complete ≡ 1
-    → (i : ℕ) → i < size
+abbrev pub CompleteTrusted : (ℕ → ℕ) → Type 0
+CompleteTrusted derive =
+    (size salt : ℕ) (t : List ℕ) (c : Columns) (o th : List ℕ) → readCall derive size salt t c o th .answer .refusal ≡ 0
+    → readCall derive size salt t c o th .answer .complete ≡ 1 → (i : ℕ) → i < size
     → view c i ≡ filterOf (filterRule size salt)
-    (minus (idsOf derive t) (take (m .answer .ours) (m .ours)) ++ take (m .answer .theirs) (m .theirs)) i
+    (minus (idsOf derive t) (listedOurs (readCall derive size salt t c o th)) ++ listedTheirs (readCall derive size salt t c o th)) i
+
+pub complete-trusted : (derive : ℕ → ℕ) → CompleteTrusted derive
 unfolding readWith
 complete-trusted derive size salt t c o th accepted whole i h =
     subst Trusted (sym asked) (go (verdictOf derive size salt t c) refl (subst (λ (m : Read). m .answer .complete ≡ 1) asked whole))
@@ -104,15 +107,18 @@ complete-trusted derive size salt t c o th accepted whole i h =
 
 -- ---- second half
 
-pub reads-exactly : (derive : ℕ → ℕ) → ((h : ℕ) → h < 2 ^ 512 → derive h < 2 ^ 64)
-    → (size salt : ℕ) (t : List ℕ) (c : Columns) (o th : List ℕ) → readRefusal derive size salt t c o th ≡ None
+abbrev pub ReadsExactly : (ℕ → ℕ) → Type 0
+ReadsExactly derive =
+    (size salt : ℕ) (t : List ℕ) (c : Columns) (o th : List ℕ) → readRefusal derive size salt t c o th ≡ None
     → (s : List ℕ) → Distinct s → ((a : ℕ) → elem a s ≡ true → a < 2 ^ 64)
     → ((i : ℕ) → i < size → view c i ≡ filterOf (filterRule size salt) s i)
     → Clear (filterRule size salt) (differing (idsOf derive t) s)
-    → let m = readCall derive size salt t c o th in
-    (m .answer .refusal ≡ 0)
+    → (readCall derive size salt t c o th .answer .refusal ≡ 0)
     × Exactly (filterRule size salt) (idsOf derive t) s
-    (take (m .answer .ours) (m .ours)) (take (m .answer .theirs) (m .theirs)) (eqb (m .answer .complete) 1)
+    (listedOurs (readCall derive size salt t c o th)) (listedTheirs (readCall derive size salt t c o th))
+    (eqb (readCall derive size salt t c o th .answer .complete) 1)
+
+pub reads-exactly : (derive : ℕ → ℕ) → ((h : ℕ) → h < 2 ^ 512 → derive h < 2 ^ 64) → ReadsExactly derive
 unfolding readWith
 reads-exactly derive bound size salt t c o th granted s ds small made clear =
     subst Right (sym (granted-read derive size salt t c o th granted)) (go never)
@@ -161,3 +167,8 @@ reads-exactly derive bound size salt t c o th granted s ds small made clear =
         → Right (readWith (verdictOf derive size salt t c) size r c o th)
     go (inl e) = subst (λ (v : Verdict). Right (readWith v size r c o th)) (sym e) (refl, listed Complete e)
     go (inr e) = subst (λ (v : Verdict). Right (readWith v size r c o th)) (sym e) (refl, listed Stuck e)
+
+-- ---- demand 3, by document 01's derivation of IDs
+
+pub demand-3 : CompleteTrusted firstEight × ReadsExactly firstEight
+demand-3 = (complete-trusted firstEight, reads-exactly firstEight first-eight-below)
