@@ -5,10 +5,11 @@
 --   firstEight h           "The ID is the first eight bytes, most significant first."
 --   idsOf derive t         the IDs of the hashes, by the derivation of IDs
 --   isTable derive t       the form of a table
---   idPosition, holdsId    where a binary search for an ID ends, and whether it stands there; the same for a hash
+--   position l a           where a binary search for a in the list l ends: of the IDs or of the hashes
+--   holds l a              whether a stands there
 --
 -- A hash is a number below 2^512, so that every order is that of numbers. The derivation of IDs is a parameter: firstEight is document 01's.
--- Laws (proofs/TableLaws): table-ids, ids-below, ids-distinct, held-id, held-hash.
+-- Laws (proofs/TableLaws): table-ids, hash-id, held-id, held-hash. (proofs/IdLaws): ids-distinct, ids-below.
 -- Assumes nothing.
 use mathlib.Core.Bool.{Bool, _&&_}
 use mathlib.Core.List.{List, map}
