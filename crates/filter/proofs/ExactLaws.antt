@@ -19,6 +19,7 @@ use Rattle.filter.specs.Lists.{select}
 use Rattle.filter.specs.Filter.{Item, ours, theirs, idOf, ids, oursOf, theirsOf, Rule, touches, sumAt, load, filterOf, difference}
 use Rattle.filter.specs.Peeling.{allZero, Outcome, fits, look, next, reading, verdict}
 use Rattle.filter.specs.Stopping.{differing, IsClosed, StoppingSet, Exactly}
+use Rattle.filter.proofs.OrderLaws.{same-test}
 use Rattle.filter.proofs.SelectLaws.{
   select-mem,
   mem-select,
@@ -29,7 +30,6 @@ use Rattle.filter.proofs.SelectLaws.{
   mem-key,
   map-mem,
   key-same,
-  test-same,
   distinct-append,
 }
 use Rattle.filter.proofs.SideLaws.{
@@ -109,7 +109,7 @@ module _ (d l : List Item) (dd : Distinct (ids d)) (sub : (x : Item) → List·M
       go (inr k) = absurd (not-both (left l x) k e)
 
   ours-listed : (a : ℕ) → elem a (oursOf l) ≡ elem a (oursOf d) && not (left l (ours a))
-  ours-listed a = test-same (elem a (oursOf l)) (elem a (oursOf d) && not (left l (ours a))) there back
+  ours-listed a = same-test (elem a (oursOf l)) (elem a (oursOf d) && not (left l (ours a))) there back
     where
       there : elem a (oursOf l) ≡ true → elem a (oursOf d) && not (left l (ours a)) ≡ true
       there e =
@@ -122,7 +122,7 @@ module _ (d l : List Item) (dd : Distinct (ids d)) (sub : (x : Item) → List·M
           mem-elem (mem-ours a l (listed-of (ours a) (ours-mem a d (elem-mem a (oursOf d) (both .0))) (both .1)))
 
   theirs-listed : (a : ℕ) → elem a (theirsOf l) ≡ elem a (theirsOf d) && not (left l (theirs a))
-  theirs-listed a = test-same (elem a (theirsOf l)) (elem a (theirsOf d) && not (left l (theirs a))) there back
+  theirs-listed a = same-test (elem a (theirsOf l)) (elem a (theirsOf d) && not (left l (theirs a))) there back
     where
       there : elem a (theirsOf l) ≡ true → elem a (theirsOf d) && not (left l (theirs a)) ≡ true
       there e =

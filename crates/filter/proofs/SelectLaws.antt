@@ -34,12 +34,6 @@ not-elem a l h = go (elem a l) refl
     go true e = absurd (h (elem-mem a l e))
     go false e = refl
 
--- two tests that hold together are the same
-pub test-same : (a b : Bool) → (a ≡ true → b ≡ true) → (b ≡ true → a ≡ true) → a ≡ b
-test-same true b f g = sym (f refl)
-test-same false true f g = g refl
-test-same false false f g = refl
-
 pub not-both : (b : Bool) → b ≡ true → not b ≡ true → ⊥
 not-both true e f = false≢true f
 not-both false e f = false≢true e

@@ -1,11 +1,11 @@
 -- An element taken out of one bucket, and one bucket after another out of all its own, with the set of buckets that look pure.
 -- Assumes nothing.
-use mathlib.Core.Path.{_≡_, refl, sym, ap, _∙_}
+use mathlib.Core.Path.{_≡_, sym, ap, _∙_}
 use mathlib.Core.Bool.{Bool, true, cond}
 use mathlib.Core.List.{List}
-use Prim.Native.Nat.{ℕ, zero, suc, _+_, _^_, _≤_, _<_, min}
+use Prim.Native.Nat.{ℕ, _+_, _^_, _≤_, _<_, min}
 use native.Mathlib.Omega.{arith}
-use lib.IntN.{ℤ, pos, negsuc, negℤ, natAbs}
+use lib.IntN.{ℤ, natAbs}
 use lib.ListN.{getD}
 use Rattle.bucket.specs.Bucket.{Bucket, bucket, _⊕_, _⊖_, neg}
 use Rattle.bucket.specs.Columns.{Columns, view, place, isOpen, added, subtracted}
@@ -19,14 +19,10 @@ use Rattle.filter.specs.Filter.{rule}
 use Rattle.filter.specs.Marks.{Marks}
 use Rattle.filter.specs.Steps.{Wide, Small, Sound, spread, shows}
 use Rattle.filter.proofs.FilledLaws.{wide-same}
+use Rattle.filter.proofs.NegatedLaws.{abs-neg as abs-negℤ}
 use Rattle.filter.proofs.SpreadLaws.{abs-small, small-more, open-of, places-given, Added, added-start, added-next, added-end}
 
 -- ---- one bucket
-
-abs-negℤ : (z : ℤ) → natAbs (negℤ z) ≡ natAbs z
-abs-negℤ (pos zero) = refl
-abs-negℤ (pos (suc n)) = refl
-abs-negℤ (negsuc n) = refl
 
 pub abs-neg : (b : Bucket) → natAbs (neg b .count) ≡ natAbs (b .count)
 unfolding neg
