@@ -7,39 +7,9 @@
 #include <string.h>
 
 #include "../include/tandawire.h"
+#include "crc.h"
 
 enum { LEAST = 37, MOST = 4096, SALTS = 64, HASH = 64, DRAWS = 64, NONE = 0xFFFF };
-
-
-typedef uint32_t crc_tables[8][256];
-
-static void make_tables(crc_tables t)
-{
-    for (uint32_t i = 0; i < 256; i++) {
-        uint32_t crc = i;
-        for (int bit = 0; bit < 8; bit++)
-            crc = crc & 1 ? crc >> 1 ^ 0xEDB88320u : crc >> 1;
-        t[0][i] = crc;
-    }
-    for (int k = 1; k < 8; k++)
-        for (int i = 0; i < 256; i++)
-            t[k][i] = t[k - 1][i] >> 8 ^ t[0][t[k - 1][i] & 0xFF];
-}
-
-/* CRC-32 of x as eight bytes, most significant first. */
-static inline uint32_t crc_of(crc_tables t, uint64_t x)
-{
-    x ^= 0xFFFFFFFF00000000u;
-    return ~(t[7][x >> 56] ^ t[6][x >> 48 & 0xFF] ^ t[5][x >> 40 & 0xFF] ^ t[4][x >> 32 & 0xFF] ^
-             t[3][x >> 24 & 0xFF] ^ t[2][x >> 16 & 0xFF] ^ t[1][x >> 8 & 0xFF] ^ t[0][x & 0xFF]);
-}
-
-/* The same of draw and i below 256: three bytes are zero, and so are their entries. */
-static inline uint32_t next_draw(crc_tables t, uint32_t draw, uint32_t i)
-{
-    return 0x6522DF69u ^ t[7][draw >> 24] ^ t[6][draw >> 16 & 0xFF] ^ t[5][draw >> 8 & 0xFF] ^
-           t[4][draw & 0xFF] ^ t[0][i];
-}
 
 /* The three places of the ID whose CRC-32 is draw. */
 static inline void places_of(crc_tables t, uint32_t draw, uint32_t size, uint16_t out[3])
@@ -103,20 +73,33 @@ static int in_table(const uint8_t *table, size_t number, uint64_t id)
     return id_at(table, low) == id;
 }
 
+/* Puts the salted ID in its three places, with the count given. */
+__attribute__((always_inline)) static inline void
+add(crc_tables t, uint64_t id, int64_t count, uint64_t *ids, uint32_t *hashes, int64_t *counts,
+    uint32_t size)
+{
+    uint32_t crc = crc_of(t, id);
+    uint16_t at[3];
+    places_of(t, crc, size, at);
+    for (int k = 0; k < 3; k++) {
+        ids[at[k]] ^= id;
+        hashes[at[k]] ^= crc;
+        counts[at[k]] += count;
+    }
+}
+
 static void add_table(crc_tables t, const uint8_t *table, size_t number, uint64_t *ids,
                       uint32_t *hashes, int64_t *counts, uint32_t size, uint32_t salt)
 {
-    for (size_t i = 0; i < number; i++) {
-        uint64_t id = rotated_right(id_at(table, i), salt * 7);
-        uint32_t crc = crc_of(t, id);
-        uint16_t at[3];
-        places_of(t, crc, size, at);
-        for (int k = 0; k < 3; k++) {
-            ids[at[k]] ^= id;
-            hashes[at[k]] ^= crc;
-            counts[at[k]]++;
-        }
-    }
+    for (size_t i = 0; i < number; i++)
+        add(t, rotated_right(id_at(table, i), salt * 7), 1, ids, hashes, counts, size);
+}
+
+static inline void clear(uint64_t *ids, uint32_t *hashes, int64_t *counts, size_t size)
+{
+    memset(ids, 0, size * sizeof *ids);
+    memset(hashes, 0, size * sizeof *hashes);
+    memset(counts, 0, size * sizeof *counts);
 }
 
 uint32_t c_build(const uint8_t *table, size_t length, uint64_t *ids, size_t ids_room,
@@ -131,15 +114,14 @@ uint32_t c_build(const uint8_t *table, size_t length, uint64_t *ids, size_t ids_
     if (ids_room < size || hashes_room < size || counts_room < size)
         return 2;
     make_tables(t);
-    memset(ids, 0, size * sizeof *ids);
-    memset(hashes, 0, size * sizeof *hashes);
-    memset(counts, 0, size * sizeof *counts);
+    clear(ids, hashes, counts, size);
     add_table(t, table, length / HASH, ids, hashes, counts, size, salt);
     return 0;
 }
 
 /* A reading under way. Bit b of word w of pure: bucket 64 w + b looks pure; bit w of top: word
- * w is not zero. Where a bucket looks pure, at holds the places of its ID. */
+ * w is not zero. Where a bucket looks pure, at holds the places of its ID. Outside of a peeling
+ * none looks pure. */
 struct reading {
     crc_tables t;
     uint64_t *ids;
@@ -184,22 +166,84 @@ static inline int is_new(struct reading *r, uint64_t id, uint16_t place, uint16_
     return 1;
 }
 
+/* Before the first of some readings. */
+static inline void prepare_reading(struct reading *r)
+{
+    make_tables(r->t);
+    r->top = 0;
+    memset(r->pure, 0, sizeof r->pure);
+}
+
+/* Begins a reading of the difference in the columns. */
+static inline void begin_reading(struct reading *r, uint64_t *ids, uint32_t *hashes,
+                                 int64_t *counts, uint32_t size)
+{
+    r->ids = ids;
+    r->hashes = hashes;
+    r->counts = counts;
+    r->size = size;
+    memset(r->first, 0xFF, size * sizeof r->first[0]);
+    for (uint32_t b = 0; b < size; b++)
+        if (looks_pure(r, b)) {
+            r->pure[b / 64] |= UINT64_C(1) << b % 64;
+            r->top |= UINT64_C(1) << b / 64;
+        }
+}
+
+enum peel { PEELED, NONE_PURE, PEELED_FALSELY };
+
+/* Peels the lowest bucket that looks pure, after so many peels. */
+static inline enum peel peel(struct reading *r, size_t peels, uint64_t *id, int64_t *count)
+{
+    if (r->top == 0)
+        return NONE_PURE;
+    uint32_t w = (uint32_t)__builtin_ctzll(r->top);
+    uint32_t b = 64 * w + (uint32_t)__builtin_ctzll(r->pure[w]), crc = r->hashes[b];
+    uint16_t at[3] = {r->at[b][0], r->at[b][1], r->at[b][2]};
+    *id = r->ids[b];
+    *count = r->counts[b];
+    if (peels == r->size || !is_new(r, *id, at[0], (uint16_t)peels))
+        return PEELED_FALSELY;
+    for (int k = 0; k < 3; k++) {
+        r->ids[at[k]] ^= *id;
+        r->hashes[at[k]] ^= crc;
+        r->counts[at[k]] -= *count;
+        look_at(r, at[k]);
+    }
+    return PEELED;
+}
+
+static inline int is_zero(const uint64_t *ids, const uint32_t *hashes, const int64_t *counts,
+                          size_t size)
+{
+    uint64_t left = 0;
+    for (size_t b = 0; b < size; b++)
+        left |= ids[b] | hashes[b] | (uint64_t)counts[b];
+    return left == 0;
+}
+
+/* Whether a COUNT is out of range; of a short column, what is there is judged. */
+static inline int counts_are_wide(const int64_t *counts, size_t room, size_t size)
+{
+    uint64_t wide = 0;
+    for (size_t i = 0; i < size && i < room; i++)
+        wide |= (uint64_t)counts[i] >> 32;
+    return wide != 0;
+}
+
 tandawire_reading c_read(const uint8_t *table, size_t length, uint64_t *ids, size_t ids_room,
                          uint32_t *hashes, size_t hashes_room, int64_t *counts,
                          size_t counts_room, uint64_t *ours, size_t ours_room, uint64_t *theirs,
                          size_t theirs_room, uint32_t size, uint32_t salt)
 {
     struct reading r;
-    tandawire_reading answer = {0, 0, 0, 0};
+    tandawire_reading answer = {1, 0, 0, 0};
     size_t number = length / HASH;
-    uint64_t left = 0;
+    enum peel end;
+    uint64_t id;
+    int64_t count;
 
-    answer.refusal = 1;
-    if (!is_table(table, length))
-        return answer;
-    for (size_t i = 0; i < size && i < counts_room; i++)
-        left |= (uint64_t)counts[i] >> 32;
-    if (left != 0)
+    if (!is_table(table, length) || counts_are_wide(counts, counts_room, size))
         return answer;
     answer.refusal = 3;
     if (size < LEAST || size > MOST || salt >= SALTS)
@@ -209,49 +253,21 @@ tandawire_reading c_read(const uint8_t *table, size_t length, uint64_t *ids, siz
         theirs_room < size)
         return answer;
 
-    make_tables(r.t);
-    r.ids = ids;
-    r.hashes = hashes;
-    r.counts = counts;
-    r.size = size;
-    r.top = 0;
-    memset(r.pure, 0, sizeof r.pure);
-    memset(r.first, 0xFF, size * sizeof r.first[0]);
+    prepare_reading(&r);
     for (uint32_t b = 0; b < size; b++)
         counts[b] = -counts[b];
     add_table(r.t, table, number, ids, hashes, counts, size, salt);
-    for (uint32_t b = 0; b < size; b++)
-        if (looks_pure(&r, b)) {
-            r.pure[b / 64] |= UINT64_C(1) << b % 64;
-            r.top |= UINT64_C(1) << b / 64;
-        }
-
-    while (r.top != 0) {
-        uint32_t w = (uint32_t)__builtin_ctzll(r.top);
-        uint32_t b = 64 * w + (uint32_t)__builtin_ctzll(r.pure[w]);
-        uint64_t id = ids[b];
-        uint32_t crc = hashes[b];
-        int64_t count = counts[b];
-        uint16_t at[3] = {r.at[b][0], r.at[b][1], r.at[b][2]};
-        size_t peels = answer.ours + answer.theirs;
-        if (peels == size || !is_new(&r, id, at[0], (uint16_t)peels))
-            goto is_false;
+    begin_reading(&r, ids, hashes, counts, size);
+    while ((end = peel(&r, answer.ours + answer.theirs, &id, &count)) == PEELED)
         if (count == 1)
             ours[answer.ours++] = rotated_right(id, -(salt * 7));
         else
             theirs[answer.theirs++] = rotated_right(id, -(salt * 7));
-        for (int k = 0; k < 3; k++) {
-            ids[at[k]] ^= id;
-            hashes[at[k]] ^= crc;
-            counts[at[k]] -= count;
-            look_at(&r, at[k]);
-        }
-    }
+    if (end == PEELED_FALSELY)
+        goto is_false;
 
-    left = 0;
-    for (uint32_t b = 0; b < size; b++)
-        left |= ids[b] | hashes[b] | (uint64_t)counts[b];
-    if (left == 0) {
+    answer.complete = is_zero(ids, hashes, counts, size);
+    if (answer.complete) {
         for (size_t i = 0; i < answer.ours; i++)
             if (!in_table(table, number, ours[i]))
                 goto is_false;
@@ -262,13 +278,10 @@ tandawire_reading c_read(const uint8_t *table, size_t length, uint64_t *ids, siz
     memset(ours + answer.ours, 0, (size - answer.ours) * sizeof *ours);
     memset(theirs + answer.theirs, 0, (size - answer.theirs) * sizeof *theirs);
     answer.refusal = 0;
-    answer.complete = left == 0;
     return answer;
 
 is_false:
-    memset(ids, 0, size * sizeof *ids);
-    memset(hashes, 0, size * sizeof *hashes);
-    memset(counts, 0, size * sizeof *counts);
+    clear(ids, hashes, counts, size);
     memset(ours, 0, size * sizeof *ours);
     memset(theirs, 0, size * sizeof *theirs);
     answer = (tandawire_reading){6, 0, 0, 0};

@@ -15,6 +15,8 @@
 #include <string.h>
 #include <time.h>
 
+#include "crc.h"
+
 uint32_t tandawire_bench_crc(uint32_t n);
 uint32_t tandawire_bench_crc_by_tables(uint32_t n);
 uint32_t tandawire_bench_places(uint32_t n, uint32_t size, size_t k);
@@ -25,20 +27,7 @@ enum { ROUNDS = 9, LEAST_NS = 20 * 1000 * 1000, SIZE = 1000, PLACES = 3, DRAWS =
 static volatile uint32_t filter_size = SIZE;
 static volatile size_t place_number = PLACES;
 
-static uint32_t table[8][256];
-
-static void make_tables(int number)
-{
-    for (uint32_t i = 0; i < 256; i++) {
-        uint32_t crc = i;
-        for (int bit = 0; bit < 8; bit++)
-            crc = crc & 1 ? crc >> 1 ^ 0xEDB88320u : crc >> 1;
-        table[0][i] = crc;
-    }
-    for (int t = 1; t < number; t++)
-        for (int i = 0; i < 256; i++)
-            table[t][i] = table[t - 1][i] >> 8 ^ table[0][table[t - 1][i] & 0xFF];
-}
+static crc_tables table;
 
 /* The three below: CRC-32 of x as eight bytes, most significant first. */
 
@@ -61,20 +50,18 @@ static uint32_t crc_by_one_table(uint64_t x)
     return ~crc;
 }
 
+/* As crc_of, which is inlined everywhere; this one the compiler calls where draws are made. */
 static uint32_t crc_by_eight_tables(uint64_t x)
 {
-    /* The first four bytes meet the 32 ones that the register begins with. */
     x ^= 0xFFFFFFFF00000000u;
     return ~(table[7][x >> 56] ^ table[6][x >> 48 & 0xFF] ^ table[5][x >> 40 & 0xFF] ^
              table[4][x >> 32 & 0xFF] ^ table[3][x >> 24 & 0xFF] ^ table[2][x >> 16 & 0xFF] ^
              table[1][x >> 8 & 0xFF] ^ table[0][x & 0xFF]);
 }
 
-/* The same of draw and i below 256: three bytes are zero, and so are their entries. */
 static uint32_t draw_by_five_lookups(uint32_t draw, uint32_t i)
 {
-    return 0x6522DF69u ^ table[7][draw >> 24] ^ table[6][draw >> 16 & 0xFF] ^
-           table[5][draw >> 8 & 0xFF] ^ table[4][draw & 0xFF] ^ table[0][i];
+    return next_draw(table, draw, i);
 }
 
 static uint32_t draw_by_eight_lookups(uint32_t draw, uint32_t i)
@@ -123,7 +110,7 @@ static uint32_t c_crc_by_bits(uint32_t n)
 static uint32_t c_crc_by_one_table(uint32_t n)
 {
     uint32_t x = 1;
-    make_tables(1);
+    make_first_table(table);
     for (uint32_t i = 0; i < n; i++)
         x = crc_by_one_table((uint64_t)x << 32 | i);
     return x;
@@ -132,7 +119,7 @@ static uint32_t c_crc_by_one_table(uint32_t n)
 static uint32_t c_crc_by_tables(uint32_t n)
 {
     uint32_t x = 1;
-    make_tables(8);
+    make_tables(table);
     for (uint32_t i = 0; i < n; i++)
         x = crc_by_eight_tables((uint64_t)x << 32 | i);
     return x;
@@ -143,7 +130,7 @@ static inline uint32_t c_places(uint32_t next(uint32_t, uint32_t), uint32_t n)
 {
     uint32_t x = 1, size = filter_size, out[MOST];
     size_t k = place_number;
-    make_tables(8);
+    make_tables(table);
     for (uint32_t i = 0; i < n; i++) {
         places(next, x, size, k, out);
         x = (x + 0x9E3779B9u) ^ ((out[0] ^ out[1]) ^ (out[2] ^ out[3]));
@@ -186,7 +173,7 @@ static int baselines_are_right(void)
 {
     static const uint64_t given[] = {0, 1, 0x0101010101010101u, 0x0123456789ABCDEFu, UINT64_MAX};
     uint32_t out[MOST];
-    make_tables(8);
+    make_tables(table);
     if (crc_by_bits(0) != 0x6522DF69u)
         return 0;
     for (size_t i = 0; i < sizeof given / sizeof given[0]; i++) {

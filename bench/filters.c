@@ -9,65 +9,15 @@
  * CRC tables (made in each call), and for a reading our filter, the peels and the table test.
  */
 #define _POSIX_C_SOURCE 199309L
-#include <stdint.h>
-#include <stdio.h>
-#include <stdlib.h>
-#include <string.h>
-#include <time.h>
+#include "jobs.h"
 
 #include "../include/tandawire.h"
 #include "baseline.h"
+#include "tables.h"
 
 /* ---- The tables and columns of a job or a check ---- */
 
-#define SEED UINT64_C(88172645463325252)
-static uint64_t state = SEED;
-
-static uint64_t draw(void)
-{
-    state ^= state << 13;
-    state ^= state >> 7;
-    state ^= state << 17;
-    return state;
-}
-
-static int compare(const void *a, const void *b)
-{
-    return memcmp(a, b, HASH);
-}
-
-/* Our table and theirs, with room for one hash too many. */
-static struct tables {
-    uint8_t ours[(MOST + 1) * HASH], theirs[(MOST + 1) * HASH];
-    size_t ours_length, theirs_length;
-} tables;
-
-/* Random tables: common hashes in both, and so many in one alone. */
-static void make(struct tables *t, size_t common, size_t ours, size_t theirs)
-{
-    static uint8_t all[2 * MOST * HASH];
-    static uint8_t side[2 * MOST];
-    size_t number = common + ours + theirs, give[3] = {common, ours, theirs};
-    for (size_t i = 0; i < number * HASH; i += 8) {
-        uint64_t eight = draw();
-        memcpy(all + i, &eight, 8);
-    }
-    qsort(all, number, HASH, compare);
-    t->ours_length = t->theirs_length = 0;
-    for (size_t i = 0; i < number; i++) {
-        size_t at = draw() % (number - i);
-        side[i] = at < give[0] ? 0 : at < give[0] + give[1] ? 1 : 2;
-        give[side[i]]--;
-        if (side[i] != 2) {
-            memcpy(t->ours + t->ours_length, all + HASH * i, HASH);
-            t->ours_length += HASH;
-        }
-        if (side[i] != 1) {
-            memcpy(t->theirs + t->theirs_length, all + HASH * i, HASH);
-            t->theirs_length += HASH;
-        }
-    }
-}
+static struct tables tables;
 
 /* What is lent to a call: columns and lists. */
 struct lent {
@@ -139,26 +89,20 @@ static int end_of_building(const size_t room[5], uint32_t size, uint32_t salt)
     return memcmp(&left[0], &left[1], sizeof left[0]) == 0 && a[0] == a[1] ? (int)a[0] : -1;
 }
 
-/* Noise everywhere, then their filter in the first size places of the columns. */
+/* Noise everywhere, then their filter in the first size places of the columns: by the C, so that a
+ * library that writes behind them is seen. */
 static void receive(uint32_t size, uint32_t salt)
 {
     memset(&given, 0xA5, sizeof given);
-    build(0, tables.theirs, tables.theirs_length, &given, whole, size, salt);
+    build(1, tables.theirs, tables.theirs_length, &given, whole, size, salt);
 }
 
 /* Puts an ID into the received columns with the count given. */
 static void tamper(uint64_t id, int64_t count, uint32_t size, uint32_t salt)
 {
     crc_tables t;
-    uint16_t at[3];
     make_tables(t);
-    id = rotated_right(id, salt * 7);
-    places_of(t, crc_of(t, id), size, at);
-    for (int k = 0; k < 3; k++) {
-        given.ids[at[k]] ^= id;
-        given.hashes[at[k]] ^= crc_of(t, id);
-        given.counts[at[k]] += count;
-    }
+    add(t, rotated_right(id, salt * 7), count, given.ids, given.hashes, given.counts, size);
 }
 
 /* Differences of either side and of both, from none to more than the filter holds. */
@@ -266,31 +210,34 @@ static int refusals_agree(void)
     return end_of_reading(whole, size, salt) == COMPLETE && end_of_building(whole, size, 0) == 0;
 }
 
+static int check(void)
+{
+    return differences_agree() && tampered_agree() && refusals_agree();
+}
+
 /* ---- The jobs ---- */
 
-enum { TABLE = 4096, ROUNDS = 25, TIMED_SALTS = 8 };
-
-static const struct job {
-    const char *name, *what;
-    int reads;
-    uint32_t size, ours, theirs;
-} jobs[] = {
-    {"build", "build 4096 at 4096", 0, 4096, 0, 0},
-    {"read_10", "read 10 + 0 at 4096", 1, 4096, 10, 0},
-    {"read_1000", "read 1000 + 0 at 4096", 1, 4096, 1000, 0},
-    {"read_2500", "read 2500 + 0 at 4096", 1, 4096, 2500, 0},
-    {"read_500_500", "read 500 + 500 at 4093", 1, 4093, 500, 500},
+/* Our table has all 4,096; theirs lacks some of them and has some of its own. */
+static const struct job jobs[] = {
+    {"build", "build", "build 4096 at 4096", 4096, 4096, 0, 0},
+    {"read_10", "read", "read 10 + 0 at 4096", 4096, 4086, 10, 0},
+    {"read_1000", "read", "read 1000 + 0 at 4096", 4096, 3096, 1000, 0},
+    {"read_2500", "read", "read 2500 + 0 at 4096", 4096, 1596, 2500, 0},
+    {"read_500_500", "read", "read 500 + 500 at 4093", 4093, 3596, 500, 500},
 };
-enum { JOBS = sizeof jobs / sizeof jobs[0] };
 
-/* One call, and its nanoseconds; -1 if it did not do the whole job. */
+static int reads(const struct job *job)
+{
+    return job != &jobs[0];
+}
+
 static double time_of(const struct job *job, int side, uint32_t salt)
 {
     struct timespec a, b;
     tandawire_reading r = {0, 1, job->ours, job->theirs};
     left[side] = given;
     clock_gettime(CLOCK_MONOTONIC, &a);
-    if (job->reads)
+    if (reads(job))
         r = read_by(side, &left[side], whole, job->size, salt);
     else
         r.refusal = build(side, tables.ours, tables.ours_length, &left[side], whole, job->size,
@@ -298,88 +245,27 @@ static double time_of(const struct job *job, int side, uint32_t salt)
     clock_gettime(CLOCK_MONOTONIC, &b);
     if (r.refusal != 0 || !r.complete || r.ours != job->ours || r.theirs != job->theirs)
         return -1;
-    return (double)(b.tv_sec - a.tv_sec) * 1e9 + (double)(b.tv_nsec - a.tv_nsec);
+    return nanoseconds(a, b);
 }
 
-/* Our table has all 4,096; theirs lacks some of them and has some of its own. Seeded anew, so
- * that a job is the same whatever ran before: a reading of two sides may also end false. */
-static void make_job(const struct job *job)
-{
-    state = SEED;
-    make(&tables, TABLE - job->ours, job->ours, job->theirs);
-}
-
-/* Builds their filter for a reading; the job build must be counted without another building. */
+/* One pair of tables at salts from 1. Seeded anew, so that a job is the same whatever ran before:
+ * a reading of two sides may also end false. Their filter is built for a reading alone; the job
+ * build must be counted without another building. */
 static void prepare(const struct job *job, uint32_t salt)
 {
-    memset(&given, 0, sizeof given);
-    if (job->reads)
-        receive(job->size, salt);
-}
-
-/* The mean over several salts of the best of some rounds, so that no side is timed on one
- * path learnt by heart. */
-static int report(const struct job *job)
-{
-    double sum[2] = {0, 0};
-    make_job(job);
-    for (uint32_t salt = 1; salt <= TIMED_SALTS; salt++) {
-        double best[2] = {1e18, 1e18};
-        prepare(job, salt);
-        for (int round = 0; round < ROUNDS; round++)
-            for (int side = 0; side < 2; side++) {
-                double again = time_of(job, side, salt);
-                if (again < 0)
-                    return 0;
-                if (again < best[side])
-                    best[side] = again;
-            }
-        sum[0] += best[0];
-        sum[1] += best[1];
+    if (salt == 1) {
+        state = SEED;
+        make(&tables, job->common, job->ours, job->theirs);
     }
-    printf("%-26s %12.0f %12.0f %12.2f\n", job->what, sum[0] / TIMED_SALTS,
-           sum[1] / TIMED_SALTS, sum[0] / sum[1]);
-    fflush(stdout);
-    return 1;
-}
-
-static int check(void)
-{
-    if (differences_agree() && tampered_agree() && refusals_agree())
-        return 1;
-    puts("filters: the library and the C do not agree");
-    return 0;
+    memset(&given, 0, sizeof given);
+    if (reads(job))
+        receive(job->size, salt);
 }
 
 int main(int argc, char **argv)
 {
-    if (argc == 1 || (argc == 2 && strcmp(argv[1], "check") == 0)) {
-        if (!check())
-            return 1;
-        if (argc == 2)
-            return 0;
-        printf("%-26s %12s %12s %12s\n", "", "library, ns", "C, ns", "library / C");
-        for (int i = 0; i < JOBS; i++)
-            if (!report(&jobs[i])) {
-                printf("filters: %s is not complete\n", jobs[i].name);
-                return 1;
-            }
-        return 0;
-    }
-    if (argc == 2 && strcmp(argv[1], "names") == 0) {
-        for (int i = 0; i < JOBS; i++)
-            printf("%s %s %s\n", jobs[i].name, jobs[i].reads ? "read" : "build", jobs[i].what);
-        return 0;
-    }
-    for (int i = 0; argc == 2 && i < JOBS; i++)
-        if (strcmp(argv[1], jobs[i].name) == 0) {
-            make_job(&jobs[i]);
-            prepare(&jobs[i], 1);
-            if (time_of(&jobs[i], 0, 1) >= 0 && time_of(&jobs[i], 1, 1) >= 0)
-                return 0;
-            printf("filters: %s is not complete\n", jobs[i].name);
-            return 1;
-        }
-    fputs("use: filters, filters names, filters check, or filters NAME\n", stderr);
-    return 2;
+    static const struct program program = {
+        "filters", jobs, sizeof jobs / sizeof jobs[0], check, prepare, time_of,
+    };
+    return run_program(&program, argc, argv);
 }

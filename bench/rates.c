@@ -13,6 +13,7 @@
 #include <string.h>
 
 #include "../include/tandawire.h"
+#include "tables.h"
 
 enum { LEAST = 37, MOST = 4096, SALTS = 64, HASH = 64, COMMON = 100, TRIALS = 4000 };
 
@@ -22,16 +23,6 @@ enum {
     DIFFERENCES = sizeof differences / sizeof differences[0],
     RATIOS = sizeof hundredths / sizeof hundredths[0],
 };
-
-static uint64_t state = 88172645463325252u;
-
-static uint64_t draw(void)
-{
-    state ^= state << 13;
-    state ^= state >> 7;
-    state ^= state << 17;
-    return state;
-}
 
 static int compare(const void *a, const void *b)
 {
@@ -55,7 +46,7 @@ static void add(uint8_t *table, size_t *length, uint64_t id)
 }
 
 /* Random tables: COMMON hashes in both, and so many in one alone. */
-static void make(size_t only_ours, size_t only_theirs)
+static void make_summed(size_t only_ours, size_t only_theirs)
 {
     static uint64_t ids[MOST];
     size_t number = COMMON + only_ours + only_theirs;
@@ -68,9 +59,7 @@ static void make(size_t only_ours, size_t only_theirs)
     alone[0] = only_ours;
     alone[1] = only_theirs;
     for (size_t i = 0; i < number; i++) {
-        size_t at = draw() % (number - i);
-        int side = at < give[0] ? 0 : at < give[0] + give[1] ? 1 : 2;
-        give[side]--;
+        int side = deal(give);
         if (side != 1)
             add(ours, &ours_length, ids[i]);
         if (side != 0)
@@ -153,7 +142,7 @@ int main(int argc, char **argv)
                 size[r][1] = next_power(d * hundredths[r]);
             }
             for (unsigned trial = 0; trial < trials; trial++) {
-                make(d - only_theirs, only_theirs);
+                make_summed(d - only_theirs, only_theirs);
                 /* Sizes do not fall from line to line, so equal ones are neighbours. */
                 for (int k = 0; k < 2; k++)
                     for (int r = 0, end = 0; r < RATIOS; r++) {

@@ -1,7 +1,8 @@
 /* Tandawire: set reconciliation with peers that are not trusted.
  *
  * Two peers each hold a table of elements, known by their SHA-512 hashes. One sends an invertible Bloom filter in place of its list; the
- * other reads the difference off it. This header declares what the library offers so far: building a filter and reading one.
+ * other reads the difference off it. This header declares what the library offers so far: building a filter and reading one, and estimating
+ * beforehand how large the difference is.
  *
  * Every call answers every input. A refusal is a number (TANDAWIRE_REFUSED_..), and each call says below what a refusal leaves behind.
  * The library keeps nothing between calls, allocates nothing and writes only where a call says, so calls on separate memory may run in
@@ -14,6 +15,7 @@
  * An ID is the first eight bytes of a hash, most significant first, as a number.
  *
  * A filter: three columns of the same number of places, 37 to 4,096: IDSUM, HASHSUM and COUNT. A received COUNT lies in 0 to 2^32 - 1.
+ * An estimator: the same three columns, of TANDAWIRE_ESTIMATOR_PLACES places.
  */
 #ifndef TANDAWIRE_H
 #define TANDAWIRE_H
@@ -30,11 +32,14 @@ extern "C" {
 #define TANDAWIRE_LEAST_SIZE 37
 #define TANDAWIRE_MOST_SIZE 4096
 #define TANDAWIRE_MOST_SALT 63
+#define TANDAWIRE_STRATA 32
+#define TANDAWIRE_STRATUM_PLACES 79
+#define TANDAWIRE_ESTIMATOR_PLACES (TANDAWIRE_STRATA * TANDAWIRE_STRATUM_PLACES)
 
 /* Refusals. They are tried in the order 1, 3, 2, then 6. */
 #define TANDAWIRE_REFUSED_NONE 0
 #define TANDAWIRE_REFUSED_FORM 1  /* the table is none, or a COUNT is outside its range; everything unchanged */
-#define TANDAWIRE_REFUSED_ROOM 2  /* a column or list has fewer than size places; everything unchanged */
+#define TANDAWIRE_REFUSED_ROOM 2  /* a column or list has too few places: fewer than size, or than TANDAWIRE_ESTIMATOR_PLACES; everything unchanged */
 #define TANDAWIRE_REFUSED_RANGE 3 /* the size or the salt is outside its range; everything unchanged */
 #define TANDAWIRE_REFUSED_FALSE 6 /* the reading is false; columns and lists are zero in their first size places */
 
@@ -72,6 +77,36 @@ tandawire_reading tandawire_read(const uint8_t *table, size_t table_length,
                                  uint64_t *ours, size_t ours_length,
                                  uint64_t *theirs, size_t theirs_length,
                                  uint32_t size, uint32_t salt);
+
+/* Makes the estimator of a table, in the first TANDAWIRE_ESTIMATOR_PLACES places of each column: 32 strata of 79 places, stratum 0 first. What
+ * was there is overwritten; what lies behind is not touched. Answers 0, or 1 or 2. */
+uint32_t tandawire_estimator_build(const uint8_t *table, size_t table_length,
+                                   uint64_t *ids, size_t ids_length,
+                                   uint32_t *hashes, size_t hashes_length,
+                                   int64_t *counts, size_t counts_length);
+
+/* What an estimate answers: the refusal; and the estimate, 0 where it is refused. */
+typedef struct tandawire_estimation {
+    uint32_t refusal;
+    uint64_t estimate;
+} tandawire_estimation;
+
+/* Estimates how many IDs are in only one of two tables, from their estimators: the first's columns and the second's.
+ *
+ * The second is subtracted from the first, in the first's columns, and the difference read stratum by stratum, from stratum 31 downwards. If
+ * every stratum is complete, the estimate is the number of IDs listed, and the first's columns are left zero. At the first stratum i that is not,
+ * it is the number listed above it times 2^(i+1): then that stratum is left as its reading leaves it, zero if it was false, and those below hold the
+ * difference. The second's columns are not changed. Only the first TANDAWIRE_ESTIMATOR_PLACES places of each slice are judged and written. Answers 0, or 1
+ * or 2; a refusal leaves everything unchanged.
+ *
+ * An estimate of 0 means that the tables are equal, or that the first stratum with something in it could not be read: two tables with little in
+ * common may give 0. docs/USING.md says how to choose a filter's size by it. */
+tandawire_estimation tandawire_estimate(uint64_t *ids, size_t ids_length,
+                                        uint32_t *hashes, size_t hashes_length,
+                                        int64_t *counts, size_t counts_length,
+                                        const uint64_t *second_ids, size_t second_ids_length,
+                                        const uint32_t *second_hashes, size_t second_hashes_length,
+                                        const int64_t *second_counts, size_t second_counts_length);
 
 #ifdef __cplusplus
 }

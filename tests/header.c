@@ -38,6 +38,64 @@ static tandawire_reading read_filter(size_t bytes, size_t room, uint32_t size, u
     return tandawire_read(table, bytes, ids, room, hashes, room, counts, room, ours, room, theirs, room, size, salt);
 }
 
+static uint64_t second_ids[ROOM];
+static uint32_t second_hashes[ROOM];
+static int64_t second_counts[ROOM];
+
+static uint32_t build_estimator(size_t bytes, size_t room)
+{
+    return tandawire_estimator_build(table, bytes, ids, room, hashes, room, counts, room);
+}
+
+static tandawire_estimation estimate(size_t room, size_t second_room)
+{
+    return tandawire_estimate(ids, room, hashes, room, counts, room, second_ids, second_room, second_hashes, second_room, second_counts,
+                              second_room);
+}
+
+/* How many elements the places of a stratum count, three places each. */
+static size_t elements_of(int stratum)
+{
+    int64_t sum = 0;
+    for (int i = 0; i < TANDAWIRE_STRATUM_PLACES; i++)
+        sum += counts[stratum * TANDAWIRE_STRATUM_PLACES + i];
+    return (size_t)sum / 3;
+}
+
+static void expect_estimators(void)
+{
+    const size_t all = (size_t)TANDAWIRE_MOST_ELEMENTS * TANDAWIRE_HASH_BYTES, places = TANDAWIRE_ESTIMATOR_PLACES;
+
+    expect("estimator, places", places, 2528);
+    expect("estimator, a broken hash", build_estimator(TANDAWIRE_HASH_BYTES + 1, ROOM), TANDAWIRE_REFUSED_FORM);
+    expect("estimator, short columns", build_estimator(all, places - 1), TANDAWIRE_REFUSED_ROOM);
+    expect("estimator, null for nothing", tandawire_estimator_build(NULL, 0, NULL, 0, NULL, 0, NULL, 0), TANDAWIRE_REFUSED_ROOM);
+    for (size_t i = 0; i < ROOM; i++)
+        counts[i] = 7;
+    expect("estimator, just enough room", build_estimator(4 * TANDAWIRE_HASH_BYTES, ROOM), TANDAWIRE_REFUSED_NONE);
+    expect("estimator, what lies behind", (size_t)counts[places], 7);
+    /* The IDs 0 to 3: 1 and 3 in stratum 0, 2 in stratum 1, 0 in the last. */
+    expect("estimator, stratum 0", elements_of(0), 2);
+    expect("estimator, stratum 1", elements_of(1), 1);
+    expect("estimator, stratum 2", elements_of(2), 0);
+    expect("estimator, the last stratum", elements_of(TANDAWIRE_STRATA - 1), 1);
+
+    /* Two elements of ours that the second lacks. */
+    memcpy(second_ids, ids, sizeof ids);
+    memcpy(second_hashes, hashes, sizeof hashes);
+    memcpy(second_counts, counts, sizeof counts);
+    expect("estimator, two more", build_estimator(6 * TANDAWIRE_HASH_BYTES, places), TANDAWIRE_REFUSED_NONE);
+    tandawire_estimation e = estimate(places, places);
+    expect("estimate, refusal", e.refusal, TANDAWIRE_REFUSED_NONE);
+    expect("estimate", (size_t)e.estimate, 2);
+    expect("estimate, short columns", estimate(places - 1, places).refusal, TANDAWIRE_REFUSED_ROOM);
+    expect("estimate, short second", estimate(places, places - 1).refusal, TANDAWIRE_REFUSED_ROOM);
+    second_counts[0] = -1;
+    e = estimate(places, places);
+    expect("estimate, a count below 0", e.refusal, TANDAWIRE_REFUSED_FORM);
+    expect("estimate, none then", (size_t)e.estimate, 0);
+}
+
 int main(void)
 {
     const size_t all = (size_t)TANDAWIRE_MOST_ELEMENTS * TANDAWIRE_HASH_BYTES;
@@ -78,5 +136,7 @@ int main(void)
     expect("read, a count below 0", read_filter(0, ROOM, 101, 0).refusal, TANDAWIRE_REFUSED_FORM);
     counts[0] = 0;
     expect("read, short lists", tandawire_read(table, 0, ids, 101, hashes, 101, counts, 101, ours, 100, theirs, 101, 101, 0).refusal, TANDAWIRE_REFUSED_ROOM);
+
+    expect_estimators();
     return 0;
 }

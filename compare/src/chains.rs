@@ -9,7 +9,7 @@ use crate::Tally;
 
 /// As many peels as there are buckets: first the last bucket, each time the next lower one is
 /// freed, and what is peeled later spoils some of those above, the highest ones.
-fn chain(random: &mut Random, pool: &Pool, signs: &[i64]) -> Option<Filter> {
+pub fn chain(random: &mut Random, pool: &Pool, signs: &[i64]) -> Option<Filter> {
     let last = pool.size - 1;
     let lowest = last - random.between(3, u64::from(last) / 4) as u32;
     let mut difference = Filter::empty(pool.size);
@@ -36,13 +36,13 @@ fn chain(random: &mut Random, pool: &Pool, signs: &[i64]) -> Option<Filter> {
 
 /// Whether there are as many peels as buckets and then none, or one more that brings an ID not
 /// listed yet: whoever makes it is left stuck.
-fn is_long(difference: &Filter, one_more: bool) -> bool {
+pub fn is_long(difference: &Filter, one_more: bool) -> bool {
     let size = difference.size() as usize;
     let (end, listed) = filters::peel(&mut difference.clone(), &[], 0);
     if listed.len() != size || !one_more {
         return listed.len() == size && end == End::Stuck;
     }
-    let (more, _) = filters::peel_by(&mut difference.clone(), &[], 0, size + 1, false);
+    let (more, _) = filters::peel_by(&mut difference.clone(), 0, size + 1, false);
     end == End::TooMany && more == End::Stuck
 }
 

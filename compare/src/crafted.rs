@@ -140,7 +140,7 @@ fn come_back_late(tally: &mut Tally, random: &mut Random, pool: &Pool) {
             }
             let overlooked = |repeats| {
                 let mut difference = plan.difference.clone();
-                filters::peel_by(&mut difference, &[], 0, 250, repeats)
+                filters::peel_by(&mut difference, 0, 250, repeats)
             };
             let (end, listed) = overlooked(false);
             let late = end == End::Repeated && listed.len() > 70;
@@ -161,7 +161,7 @@ fn spoil_at(random: &mut Random, difference: &mut Filter, place: u32) {
 
 /// K stands alone at p and is listed first; what is left of it at q stays hidden behind V until
 /// X, which lies higher, is out and has freed V, which lies lower. X and V then spoil p.
-fn on_the_other_side(random: &mut Random, pool: &Pool, signs: &[i64]) -> Filter {
+pub fn on_the_other_side(random: &mut Random, pool: &Pool, signs: &[i64]) -> Filter {
     loop {
         let x = random.pick(&pool.keys);
         let [low, p, high] = ascending(x, pool.size);
@@ -186,7 +186,7 @@ fn on_the_other_side(random: &mut Random, pool: &Pool, signs: &[i64]) -> Filter 
 }
 
 /// K stands alone at p and twice, behind W, at the lower q: W, which lies higher, bares it.
-fn on_the_same_side(random: &mut Random, pool: &Pool, signs: &[i64]) -> Filter {
+pub fn on_the_same_side(random: &mut Random, pool: &Pool, signs: &[i64]) -> Filter {
     loop {
         let w = random.pick(&pool.keys);
         let [q, p, high] = ascending(w, pool.size);

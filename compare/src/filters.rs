@@ -138,7 +138,7 @@ impl Filter {
     }
 
     /// Lays this in the first places of the columns.
-    fn lay(&self, columns: Columns) {
+    pub fn lay(&self, columns: Columns) {
         let size = self.ids.len();
         columns.ids[..size].copy_from_slice(&self.ids);
         columns.hashes[..size].copy_from_slice(&self.hashes);
@@ -154,7 +154,7 @@ fn is_shorter<T>(lent: &[T], size: u32) -> bool {
     lent.len() < size as usize
 }
 
-fn a_column_is_shorter(columns: &Columns, size: u32) -> bool {
+pub fn a_column_is_shorter(columns: &Columns, size: u32) -> bool {
     is_shorter(columns.ids, size)
         || is_shorter(columns.hashes, size)
         || is_shorter(columns.counts, size)
@@ -197,13 +197,18 @@ pub enum End {
 /// Peels the difference and lists unsalted IDs, each with whether it is ours.
 pub fn peel(difference: &mut Filter, table: &[u8], salt: u32) -> (End, Vec<(u64, bool)>) {
     let most = difference.size() as usize;
-    peel_by(difference, table, salt, most, false)
+    let (end, listed) = peel_by(difference, salt, most, false);
+    let held = ids(table);
+    let wrong = |&(id, ours): &(u64, bool)| held.contains(&id) != ours;
+    match end {
+        End::Complete if listed.iter().any(wrong) => (End::Contradicted, listed),
+        _ => (end, listed),
+    }
 }
 
-/// Likewise with other limits: so many peels, and repeats may pass.
+/// Likewise without the table's test and with other limits: so many peels, and repeats may pass.
 pub fn peel_by(
     difference: &mut Filter,
-    table: &[u8],
     salt: u32,
     most: usize,
     repeats: bool,
@@ -223,14 +228,10 @@ pub fn peel_by(
         listed.push((id, count == 1));
         difference.put(key, -count);
     }
-    if !difference.is_zero() {
-        return (End::Stuck, listed);
+    match difference.is_zero() {
+        true => (End::Complete, listed),
+        false => (End::Stuck, listed),
     }
-    let held = ids(table);
-    if listed.iter().any(|&(id, ours)| held.contains(&id) != ours) {
-        return (End::Contradicted, listed);
-    }
-    (End::Complete, listed)
 }
 
 /// Writes a list in its first places, zeros behind it up to size.

@@ -1,9 +1,10 @@
 //! The library's exported functions behind safe wrappers: the only unsafe code here,
-//! with that of the layer above in library/filters.rs.
+//! with that of the layer above in library/filters.rs and library/estimator.rs.
 //!
 //! Each wrapper lends whole slices by pointer and length, and the library keeps to them;
 //! the comparisons lend them out of larger buffers, to see that it does.
 
+pub mod estimator;
 pub mod filters;
 
 use crate::model::{Bucket, Columns};

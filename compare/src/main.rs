@@ -5,6 +5,8 @@ mod building;
 mod chains;
 mod crafted;
 mod differ;
+mod estimates;
+mod estimator;
 mod filters;
 mod honest;
 mod known;
@@ -22,6 +24,7 @@ mod refused;
 mod sets;
 mod tables;
 
+use estimator::Outcome;
 use filters::End;
 use random::Random;
 use std::fmt::Debug;
@@ -42,6 +45,7 @@ pub struct Tally {
     subjects: Vec<(&'static str, u64)>,
     seed: u64,
     ends: Vec<(End, u64)>,
+    outcomes: Vec<Outcome>,
 }
 
 impl Tally {
@@ -128,7 +132,10 @@ fn around(text: &str, at: usize) -> String {
 
 fn main() {
     differ::must_be_there();
-    if let Err(what) = known::check_model().and_then(|()| known_filters::check_model()) {
+    let checked = known::check_model()
+        .and_then(|()| known_filters::check_model())
+        .and_then(|()| estimates::check_model());
+    if let Err(what) = checked {
         println!("the model itself is wrong: {what}");
         exit(1);
     }
@@ -136,6 +143,7 @@ fn main() {
         subjects: Vec::new(),
         seed: 0,
         ends: Vec::new(),
+        outcomes: Vec::new(),
     };
     numbers::compare(&mut tally);
     packing::compare(&mut tally);
@@ -147,6 +155,7 @@ fn main() {
     honest::compare(&mut tally);
     malicious::compare(&mut tally);
     crafted::compare(&mut tally);
+    estimates::compare(&mut tally);
     differ::compare(&mut tally);
 
     tally.tell_last();
@@ -158,6 +167,10 @@ fn main() {
     let seldom = tally.ends.iter().any(|&(_, n)| n < LEAST_OF_AN_END);
     if readings < LEAST_READINGS || tally.ends.len() < 5 || seldom {
         println!("{LEAST_READINGS} readings are asked for, {LEAST_OF_AN_END} of each end");
+        exit(1);
+    }
+    if !estimates::are_enough(&tally.outcomes) {
+        println!("more estimates are asked for, or more of a kind");
         exit(1);
     }
     let total: u64 = tally.subjects.iter().map(|(_, compared)| compared).sum();

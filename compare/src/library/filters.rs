@@ -65,7 +65,7 @@ fn start<T>(s: &[T]) -> *const T {
     }
 }
 
-fn start_mut<T>(s: &mut [T]) -> *mut T {
+pub fn start_mut<T>(s: &mut [T]) -> *mut T {
     match s {
         [] => null_mut(),
         _ => s.as_mut_ptr(),

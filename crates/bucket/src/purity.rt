@@ -29,6 +29,16 @@ pub fn looks_pure(
     false
 }
 
+// Whether a count is 1 or −1. A caller that asks this first spares most buckets the call of looks_pure.
+pub fn is_one(c: i64) -> bool
+    ensures { λ r. ⌜ r ≡ isOne c ⌝ }
+{
+    if c == 1 {
+        return true;
+    }
+    c == -1
+}
+
 // Whether bucket i is one of the places that draw 0 leads to.
 // The first three draws lead to places in any case; what lies behind them matters only if two of them agree, or k is not 3.
 pub fn is_place(tab: &[u32; 2048], d: u32, i: u32, size: u32, k: usize) -> bool
@@ -74,13 +84,4 @@ fn is_found(tab: &[u32; 2048], d: u32, i: u32, size: u32, k: usize) -> bool
         j += 1;
     }
     false
-}
-
-fn is_one(c: i64) -> bool
-    ensures { λ r. ⌜ r ≡ isOne c ⌝ }
-{
-    if c == 1 {
-        return true;
-    }
-    c == -1
 }

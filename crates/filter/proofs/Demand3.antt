@@ -22,13 +22,14 @@ use lib.ListN.{length, take}
 use Rattle.bucket.specs.Bucket.{Bucket, _⊕_}
 use Rattle.bucket.specs.Columns.{Columns, view}
 use Rattle.bucket.specs.Lists.{elem, Distinct}
+use Rattle.bucket.specs.Places.{placeCount}
 use Rattle.filter.specs.declared.answers.Refusal.the-variants.{None}
 use Rattle.filter.specs.declared.answers.Verdict.{Verdict}
 use Rattle.filter.specs.declared.answers.Verdict.the-variants.{Complete, Stuck, False}
 use Rattle.filter.specs.Lists.{minus}
 use Rattle.filter.specs.Table.{firstEight, idsOf}
 use Rattle.filter.specs.Filter.{Item, ids, oursOf, theirsOf, Rule, filterRule, filterOf, difference}
-use Rattle.filter.specs.Peeling.{Outcome}
+use Rattle.filter.specs.Peeling.{Outcome, isComplete}
 use Rattle.filter.specs.Stopping.{differing, Clear, Exactly}
 use Rattle.filter.specs.Calls.{listedInto, readRefusal, Read, readWith, outcomeOf, verdictOf, readCall}
 use Rattle.filter.proofs.SelectLaws.{elem-mem, mem-elem, elem-reverse, distinct-append, distinct-reverse, minus-cong}
@@ -36,8 +37,8 @@ use Rattle.filter.proofs.SideLaws.{distinct-ours, distinct-theirs, side
 use Rattle.filter.proofs.SumLaws.{filter-append, filter-reverse}
 use Rattle.filter.proofs.SoundLaws.{sound, reading-distinct}
 use Rattle.filter.proofs.LeftLaws.{Fair}
-use Rattle.filter.proofs.ExactLaws.{Placed, isComplete, exactly, never-false}
-use Rattle.filter.proofs.IdLaws.{ids-distinct, first-eight-below, fair, placed}
+use Rattle.filter.proofs.ExactLaws.{Placed, exactly, never-false}
+use Rattle.filter.proofs.IdLaws.{ids-distinct, first-eight-below, ids-below, fair, some-places, placed}
 use Rattle.filter.proofs.GrantedLaws.{granted-table, granted-size, granted-read, complete-granted, listed-back}
 
 -- the IDs that a call lists: the first part of each list, up to the length that it answers
@@ -136,10 +137,10 @@ reads-exactly derive bound size salt t c o th granted s ds small made clear =
     table = ids-distinct derive t (granted-table derive size salt t c o th granted)
 
     rule-placed : Placed R
-    rule-placed = let large = granted-size derive size salt t c o th granted in placed size salt (omega arith)
+    rule-placed = let large = granted-size derive size salt t c o th granted in placed (placeCount size) size salt (some-places size) (omega arith)
 
     rule-fair : Fair R (differing (idsOf derive t) s)
-    rule-fair = fair derive bound size salt t s small clear
+    rule-fair = fair (placeCount size) size salt (idsOf derive t) s (ids-below derive bound t) (λ a m. small a (mem-elem m)) clear
 
     never : (verdictOf derive size salt t c ≡ Complete) ⊎ (verdictOf derive size salt t c ≡ Stuck)
     never = never-false R rule-placed (idsOf derive t) s table ds (view c) made rule-fair

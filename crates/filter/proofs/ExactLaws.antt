@@ -17,7 +17,7 @@ use Rattle.filter.specs.declared.answers.Verdict.{Verdict}
 use Rattle.filter.specs.declared.answers.Verdict.the-variants.{Complete, Stuck, False}
 use Rattle.filter.specs.Lists.{select}
 use Rattle.filter.specs.Filter.{Item, ours, theirs, idOf, ids, oursOf, theirsOf, Rule, touches, sumAt, load, filterOf, difference}
-use Rattle.filter.specs.Peeling.{allZero, Outcome, fits, look, next, reading, verdict}
+use Rattle.filter.specs.Peeling.{allZero, Outcome, fits, isComplete, look, next, reading, verdict}
 use Rattle.filter.specs.Stopping.{differing, IsClosed, StoppingSet, Exactly}
 use Rattle.filter.proofs.OrderLaws.{same-test}
 use Rattle.filter.proofs.SelectLaws.{
@@ -76,11 +76,6 @@ module _ (R : Rule) (t : List ℕ) (r : Outcome) (fine : r .fine ≡ true) where
   is-stuck : allZero (r .rest) (R .size) ≡ false → verdict R t r ≡ Stuck
   unfolding verdict
   is-stuck z = rw (fine, z)
-
-abbrev pub isComplete : Verdict → Bool
-isComplete Complete = true
-isComplete Stuck = false
-isComplete False = false
 
 -- ---- what is listed
 

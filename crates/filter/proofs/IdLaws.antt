@@ -12,19 +12,18 @@ use lib.Dec.{eqb, leb}
 use lib.ListN.{length, getD}
 use lib.Pow.{pow-pos}
 use Rattle.bucket.specs.Crc.{crcOf, tabulated}
-use Rattle.bucket.specs.Lists.{elem, Distinct}
+use Rattle.bucket.specs.Lists.{Distinct}
 use Rattle.bucket.specs.Places.{crcNext, placesBy, placeCount}
 use Rattle.bucket.specs.Salt.{salted, unsalted}
 use Rattle.bucket.proofs.ListLaws.{elem-at}
 use Rattle.bucket.proofs.PlaceLaws.{places-below, places-length}
 use Rattle.bucket.proofs.SaltLaws.{unsalted-salted}
-use Rattle.filter.specs.Lists.{ascending, distinct}
-use Rattle.filter.specs.Filter.{Item, idOf, filterRule}
+use Rattle.filter.specs.Lists.{ascending}
+use Rattle.filter.specs.Filter.{Item, idOf, rule}
 use Rattle.filter.specs.Stopping.{differing, Clear}
 use Rattle.filter.specs.Table.{hashAt, hashesOf, firstEight, idsOf, isTable}
 use Rattle.filter.proofs.OrderLaws.{distinct-true}
 use Rattle.filter.proofs.TableLaws.{part-short}
-use Rattle.filter.proofs.SelectLaws.{mem-elem}
 use Rattle.filter.proofs.SideLaws.{differing-from}
 use Rattle.filter.proofs.LeftLaws.{Fair}
 use Rattle.filter.proofs.ExactLaws.{Placed}
@@ -59,29 +58,27 @@ module _ (derive : ℕ → ℕ) (bound : (h : ℕ) → h < 2 ^ 512 → derive h 
   unfolding idsOf hashesOf
   ids-below t a m = derived-below t a 0 (length t / 64) m
 
-  -- ---- the rule of document 01
+-- ---- the rule of document 01
 
-  -- a true difference of IDs is read back
-  pub fair : (size salt : ℕ) (t s : List ℕ) → ((a : ℕ) → elem a s ≡ true → a < 2 ^ 64)
-      → Clear (filterRule size salt) (differing (idsOf derive t) s) → Fair (filterRule size salt) (differing (idsOf derive t) s)
-  fair size salt t s small clear = record { codes = codes; clear = clear }
-    where
-      below : (x : Item) → List·Memᴰ (idOf x) (idsOf derive t) ⊎ List·Memᴰ (idOf x) s → idOf x < 2 ^ 64
-      below x (inl m) = ids-below t (idOf x) m
-      below x (inr m) = small (idOf x) (mem-elem m)
+-- a true difference of IDs is read back
+pub fair : (k size salt : ℕ) (t s : List ℕ) → ((a : ℕ) → List·Memᴰ a t → a < 2 ^ 64) → ((a : ℕ) → List·Memᴰ a s → a < 2 ^ 64)
+    → Clear (rule k size salt) (differing t s) → Fair (rule k size salt) (differing t s)
+fair k size salt t s small-t small-s clear = record { codes = codes; clear = clear }
+  where
+    below : (x : Item) → List·Memᴰ (idOf x) t ⊎ List·Memᴰ (idOf x) s → idOf x < 2 ^ 64
+    below x (inl m) = small-t (idOf x) m
+    below x (inr m) = small-s (idOf x) m
 
-      codes : (x : Item) → List·Memᴰ x (differing (idsOf derive t) s) → unsalted salt (salted salt (idOf x)) ≡ idOf x
-      codes x m = unsalted-salted salt (idOf x) (below x (differing-from (idsOf derive t) s x m))
+    codes : (x : Item) → List·Memᴰ x (differing t s) → unsalted salt (salted salt (idOf x)) ≡ idOf x
+    codes x m = unsalted-salted salt (idOf x) (below x (differing-from t s x m))
 
 pub some-places : (size : ℕ) → 1 ≤ placeCount size
 unfolding placeCount
 some-places size = omega arith
 
-pub placed : (size salt : ℕ) → 1 ≤ size → Placed (filterRule size salt)
-placed size salt h = record {
-  inside = λ w i e. places-below crcNext (placeCount size) size (crcOf w) i e;
-  place = λ w. getD (placesBy crcNext (placeCount size) size (crcOf w)) 0 0;
-  at-place = λ w.
-      elem-at (placesBy crcNext (placeCount size) size (crcOf w)) 0
-      (omega (arith, places-length crcNext (placeCount size) size (crcOf w), some-places size));
+pub placed : (k size salt : ℕ) → 1 ≤ k → 1 ≤ size → Placed (rule k size salt)
+placed k size salt some h = record {
+  inside = λ w i e. places-below crcNext k size (crcOf w) i e;
+  place = λ w. getD (placesBy crcNext k size (crcOf w)) 0 0;
+  at-place = λ w. elem-at (placesBy crcNext k size (crcOf w)) 0 (omega (arith, places-length crcNext k size (crcOf w)));
 }

@@ -32,3 +32,10 @@ pub mod Examples
 pub mod PartLaws
 pub mod JudgeLaws
 pub mod CallLaws
+pub mod StrataLaws
+pub mod LentLaws
+pub mod LayerLaws
+pub mod EstimateLaws
+pub mod TallyLaws
+pub mod StratumLaws
+pub mod EstimateExact

@@ -29,7 +29,7 @@ range-sound size salt h =
     record { least = leb-true _ _ (a .0); most = leb-true _ _ (b .0); some = omega arith; few = omega arith; salt-in = ltb-true _ _ (b .1) }
 
 -- counts are those of the buckets
-small-filled : (n m : ℕ) (f : ℕ → Bucket) (c : Columns) → Wide n c → ((i : ℕ) → i < n → natAbs (f i .count) < m) → Small n m (filled n f c)
+pub small-filled : (n m : ℕ) (f : ℕ → Bucket) (c : Columns) → Wide n c → ((i : ℕ) → i < n → natAbs (f i .count) < m) → Small n m (filled n f c)
 small-filled n m f c w h = record { all = λ i l. subst (λ (z : ℤ). natAbs z < m) (sym (at i l)) (h i l) }
   where
     at : (i : ℕ) → i < n → getD (filled n f c .counts) i (pos 0) ≡ f i .count
@@ -62,22 +62,22 @@ small-difference R t n c w h l = small-filled n (2 ^ 34) (difference R t (view c
         let s = counts-small n c w h .all i k in
         omega (arith, abs-sum (filterOf R t i .count) (negℤ (view c i .count)), filter-count R t i, abs-neg (view c i .count))
 
-module _ (n : ℕ) (K : ℕ) (g : ℕ → ℕ → Bucket) (c : Columns) (w : Wide n c) where
-  -- with k places an element, k being K: added to columns that hold f
-  added-after : (f : ℕ → Bucket) (k : ℕ) {c₁ c₂ : Columns} → c₁ ≡ filled n f c → k ≡ K → c₂ ≡ filled n (λ i. view c₁ i ⊕ g k i) c₁
-      → c₂ ≡ filled n (λ i. f i ⊕ g K i) c
-  added-after f k e p q =
-      q ∙ ap₂ (λ (d : Columns) (m : ℕ). filled n (λ i. view d i ⊕ g m i) d) e p
-      ∙ filled-filled n f (λ i. view (filled n f c) i ⊕ g K i) c w
-      ∙ filled-cong n (λ i. view (filled n f c) i ⊕ g K i) (λ i. f i ⊕ g K i) c (λ i h. ap (λ (b : Bucket). b ⊕ g K i) (view-filled-in n f c i w h))
+module _ (n : ℕ) (g : ℕ → Bucket) (c : Columns) (w : Wide n c) where
+  -- h, which is g, added to columns that hold f
+  added-after : (f : ℕ → Bucket) {h : ℕ → Bucket} {c₁ c₂ : Columns} → c₁ ≡ filled n f c → h ≡ g → c₂ ≡ filled n (λ i. view c₁ i ⊕ h i) c₁
+      → c₂ ≡ filled n (λ i. f i ⊕ g i) c
+  added-after f e p q =
+      q ∙ ap₂ (λ (d : Columns) (u : ℕ → Bucket). filled n (λ i. view d i ⊕ u i) d) e p
+      ∙ filled-filled n f (λ i. view (filled n f c) i ⊕ g i) c w
+      ∙ filled-cong n (λ i. view (filled n f c) i ⊕ g i) (λ i. f i ⊕ g i) c (λ i l. ap (λ (b : Bucket). b ⊕ g i) (view-filled-in n f c i w l))
 
   -- to cleared columns
-  pub built-after : (k : ℕ) {c₁ c₂ : Columns} → c₁ ≡ filled n (λ i. 𝟎) c → k ≡ K → c₂ ≡ filled n (λ i. view c₁ i ⊕ g k i) c₁ → c₂ ≡ filled n (g K) c
-  built-after k e p q = added-after (λ i. 𝟎) k e p q ∙ filled-cong n (λ i. 𝟎 ⊕ g K i) (g K) c (λ i h. ⊕-idl (g K i))
+  pub built-after : {h : ℕ → Bucket} {c₁ c₂ : Columns} → c₁ ≡ filled n (λ i. 𝟎) c → h ≡ g → c₂ ≡ filled n (λ i. view c₁ i ⊕ h i) c₁ → c₂ ≡ filled n g c
+  built-after e p q = added-after (λ i. 𝟎) e p q ∙ filled-cong n (λ i. 𝟎 ⊕ g i) g c (λ i l. ⊕-idl (g i))
 
   -- to negated ones
-  pub subtracted-after : (k : ℕ) {c₁ c₂ : Columns} → c₁ ≡ filled n (λ i. neg (view c i)) c → k ≡ K → c₂ ≡ filled n (λ i. view c₁ i ⊕ g k i) c₁
-      → c₂ ≡ filled n (λ i. g K i ⊕ neg (view c i)) c
-  subtracted-after k e p q =
-      added-after (λ i. neg (view c i)) k e p q
-      ∙ filled-cong n (λ i. neg (view c i) ⊕ g K i) (λ i. g K i ⊕ neg (view c i)) c (λ i h. ⊕-comm (neg (view c i)) (g K i))
+  pub subtracted-after : {h : ℕ → Bucket} {c₁ c₂ : Columns} → c₁ ≡ filled n (λ i. neg (view c i)) c → h ≡ g → c₂ ≡ filled n (λ i. view c₁ i ⊕ h i) c₁
+      → c₂ ≡ filled n (λ i. g i ⊕ neg (view c i)) c
+  subtracted-after e p q =
+      added-after (λ i. neg (view c i)) e p q
+      ∙ filled-cong n (λ i. neg (view c i) ⊕ g i) (λ i. g i ⊕ neg (view c i)) c (λ i l. ⊕-comm (neg (view c i)) (g i))

@@ -12,9 +12,11 @@ use mir.Syntax.{w64}
 use mir.Val.{SFits, toZ, ofZ}
 use mir.ValLaws.{toZ-ofZ}
 use borrow.Author.Tests.{lt-ltb, le-ltb, ltb-true, ltb-false, eqb-true, eqb-false}
-use Rattle.bucket.specs.Bucket.{Bucket, bucket, looksPureBy, looksPure}
+use Rattle.bucket.specs.Bucket.{Bucket, bucket, isOne, looksPureBy, looksPure}
 use Rattle.bucket.specs.Columns.{Columns, columns, view, place}
-use Rattle.bucket.specs.Crc.{crcTables, crcBy, nextBy}
+use Rattle.bucket.specs.Crc.{crcOf, crcTables, crcBy, nextBy}
+use Rattle.bucket.specs.Lists.{elem}
+use Rattle.bucket.specs.Places.{places}
 use Rattle.bucket.proofs.ColumnLaws.{place-other}
 use Rattle.bucket.proofs.PurityLaws.{pure-by-tables}
 use Rattle.filter.specs.Filter.{Rule, rule}
@@ -45,6 +47,14 @@ module _ (k size : ℕ) where
   pure-read tab salt i is hs cs r e h fit a =
       pure-tested tab salt i (bucket (getD is i 0) (getD hs i 0) (toZ w64 (ofZ w64 (getD cs i (pos 0))))) r e h a
       ∙ ap (λ (z : ℤ). isPure (rule k size salt) i (bucket (getD is i 0) (getD hs i 0) z)) (toZ-ofZ w64 (getD cs i (pos 0)) fit)
+
+  -- a count that is not one settles it
+  pub impure-read : (salt i : ℕ) (is hs : List ℕ) (cs : List ℤ) (r : Bool) → SFits w64 (getD cs i (pos 0))
+      → r ≡ isOne (toZ w64 (ofZ w64 (getD cs i (pos 0)))) → r ≡ false → false ≡ isPure (rule k size salt) i (view (columns is hs cs) i)
+  unfolding view isPure
+  impure-read salt i is hs cs r fit a e =
+      ap (λ (t : Bool). t && (eqb (getD hs i 0) (crcOf (getD is i 0)) && elem i (places k size (crcOf (getD is i 0)))))
+      (sym (sym a ∙ e) ∙ ap isOne (toZ-ofZ w64 (getD cs i (pos 0)) fit))
 
   -- a bucket looks pure at one salt if it does at another
   pub shows-salt : (a b : ℕ) (f : ℕ → Bucket) → shows (rule k size a) f ≡ shows (rule k size b) f
@@ -77,9 +87,9 @@ module _ (R : Rule) (f : ℕ → Bucket) where
           more : b ≤ i → (i ≡ b → ⊥) → b + 1 ≤ i
           more l ne = omega arith
 
-  pub shows-yes : (b : ℕ) (bits : List ℕ) (t : ℕ) → isPure R b (f b) ≡ true
-      → Marks (but (showsBelow b) b true) bits t → Marks (showsBelow (b + 1)) bits t
-  shows-yes b bits t e m = subst (λ (g : ℕ → Bool). Marks g bits t) (fun-ext (but-next b true (sym e))) m
+  pub shows-on : (b : ℕ) (bits : List ℕ) (t : ℕ) (on : Bool) → on ≡ isPure R b (f b)
+      → Marks (but (showsBelow b) b on) bits t → Marks (showsBelow (b + 1)) bits t
+  shows-on b bits t on e m = subst (λ (g : ℕ → Bool). Marks g bits t) (fun-ext (but-next b on e)) m
 
   pub shows-no : (b : ℕ) (bits : List ℕ) (t : ℕ) → isPure R b (f b) ≡ false
       → Marks (showsBelow b) bits t → Marks (showsBelow (b + 1)) bits t

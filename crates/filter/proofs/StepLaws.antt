@@ -7,7 +7,7 @@ use native.Mathlib.Nat.{sub-zero}
 use native.Mathlib.Omega.{arith}
 use lib.Dec.{ltb}
 use lib.IntN.{ℤ, pos, natAbs}
-use lib.ListN.{length, getD, replicate}
+use lib.ListN.{length, getD}
 use borrow.Author.Tests.{not-true, not-false, ltb-true, ltb-false}
 use Rattle.bucket.specs.Bucket.{Bucket, bucket, neg, isOne}
 use Rattle.bucket.specs.Columns.{Columns, columns, view}
@@ -24,7 +24,7 @@ use Rattle.filter.specs.Steps.{Wide, Small, Sound, spread, shows, Listed
 use Rattle.filter.proofs.FilledLaws.{filled-is-lengths, filled-filled, filled-view, view-filled-in, view-filled-out, wide-same}
 use Rattle.filter.proofs.SpreadLaws.{small-more, small-spread}
 use Rattle.filter.proofs.MarkLaws.{marks-empty}
-use Rattle.filter.proofs.RepeatLaws.{chains-start}
+use Rattle.filter.proofs.RepeatLaws.{chains-again}
 use Rattle.filter.proofs.PeelLaws.{
   Inv,
   inv-start,
@@ -113,33 +113,34 @@ pub record Found (n : Input) (g : State) : Type 0 where
 
 -- ---- before the first turn
 
-abbrev pub begun : Input → List ℕ → ℕ → ℕ → State
-begun n bits top z =
+abbrev pub begun : Input → List ℕ → List ℕ → List ℕ → List ℕ → ℕ → State
+begun n bits heads links seen top =
     record {
       columns = n .columns;
       ours = n .ours;
       theirs = n .theirs;
       bits = bits;
-      heads = replicate z 0;
-      links = replicate z 0;
-      seen = replicate z 0;
+      heads = heads;
+      links = links;
+      seen = seen;
       top = top;
       made = 0;
       a = 0;
       t = 0;
     }
 
-pub peeling-start : (n : Input) (bits : List ℕ) (top z : ℕ) → Fit n → z ≡ 4096 → Marks (pureIn n (n .columns)) bits top
-    → Peeling n (begun n bits top z)
+pub peeling-start : (n : Input) (bits heads links seen : List ℕ) (top : ℕ) → Fit n → Chains 0 heads links seen
+    → Marks (pureIn n (n .columns)) bits top
+    → Peeling n (begun n bits heads links seen top)
 unfolding upto
-peeling-start n bits top z f e m = record {
+peeling-start n bits heads links seen top f c m = record {
   fit = f;
   acc = [];
   many = refl;
   few = zero-le;
   small = small-more (n .size) (2 ^ 34) (2 ^ 34 + 0) (n .columns) (omega arith) (f .small);
   marks = m;
-  chains = chains-start z e;
+  chains = c;
   noted = refl;
   listed = listed-nothing (n .ours) (n .theirs);
   inv = subst (λ (j : ℕ). Inv (ruleOf n) (view (n .columns)) j [] (view (n .columns))) (sym (sub-zero (n .size)))
@@ -159,6 +160,10 @@ module _ (n : Input) (g : State) (p : Peeling n g) where
   pub peeling-small : Small (n .size) (2 ^ 60) (g .columns)
   peeling-small =
       small-more (n .size) (2 ^ 34 + g .made) (2 ^ 60) (g .columns) (omega (arith, p .few, p .fit .sound .most)) (p .small)
+
+  -- the arrays may be lent again
+  pub peeling-again : Chains 0 (g .heads) (g .links) (g .seen)
+  peeling-again = chains-again (g .made) (g .heads) (g .links) (g .seen) (p .chains)
 
   pub peeling-count : g .a + g .t ≡ g .made
   peeling-count = listed-count (n .ours) (n .theirs) (p .acc) (g .ours) (g .theirs) (g .a) (g .t) (p .listed) ∙ p .many

@@ -3,6 +3,7 @@
 --   refusalNumber r     the number of a refusal (document 01, "Refusal numbers"), 0 for none
 --   firstOf ts          the refusal of the first test of ts that does not hold
 --   answerOf r          a reading's answer as numbers: refusal, complete, and the lengths of the two lists
+--   estimateAnswer e    an estimate's answer as numbers: refusal and estimate
 --
 -- Assumes nothing.
 use mathlib.Core.Bool.{Bool, cond}
@@ -13,6 +14,9 @@ use Rattle.filter.specs.declared.answers.Refusal.the-variants.{None, For
 use Rattle.filter.specs.declared.answers.Reading.{Reading}
 use Rattle.filter.specs.declared.answers.Reading.the-variants.{Complete, Stuck, BadForm, BadRange, NoRoom, Untrue}
 use Rattle.filter.specs.declared.answers.Answer.{Answer}
+use Rattle.filter.specs.declared.answers.Estimation.{Estimation}
+use Rattle.filter.specs.declared.answers.Estimation.the-variants.{Made, NotCounts, TooShort}
+use Rattle.filter.specs.declared.answers.Estimate.{Estimate}
 
 abbrev pub refusalNumber : Refusal → ℕ
 refusalNumber None = 0
@@ -43,3 +47,12 @@ answerOf BadForm = answer (refusalNumber Form) 0 0 0
 answerOf BadRange = answer (refusalNumber Range) 0 0 0
 answerOf NoRoom = answer (refusalNumber Room) 0 0 0
 answerOf Untrue = answer (refusalNumber FalseReading) 0 0 0
+
+-- an estimate's answer: the refusal's number and the estimate, 0 where it is refused
+abbrev pub estimate : ℕ → ℕ → Estimate
+estimate n e = record { refusal = n; estimate = e }
+
+abbrev pub estimateAnswer : Estimation → Estimate
+estimateAnswer (Made e) = estimate 0 e
+estimateAnswer NotCounts = estimate (refusalNumber Form) 0
+estimateAnswer TooShort = estimate (refusalNumber Room) 0

@@ -6,6 +6,7 @@ pub mod Filter
 pub mod Peeling
 pub mod Stopping
 pub mod Calls
+pub mod Estimator
 pub mod Numbers
 pub mod Marks
 pub mod Repeats

@@ -72,6 +72,11 @@ verdictBy true false t = Stuck
 verdictBy true true false = False
 verdictBy true true true = Complete
 
+abbrev pub isComplete : Verdict → Bool
+isComplete Complete = true
+isComplete Stuck = false
+isComplete False = false
+
 module _ (R : Rule) where
   -- "its count is 1 or −1, its HASHSUM is the CRC-32 of its IDSUM, and the bucket is one of the places of that IDSUM"
   unfoldable pub isPure : ℕ → Bucket → Bool

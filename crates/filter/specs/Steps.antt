@@ -4,28 +4,35 @@
 --   Small n m c          the first n counts are below m either way
 --   Sound size k salt    a size, a number of places and a salt that the parts take
 --   Received, Ready      what a reading's parts take
+--   layered top ..       the rule of strata of one size, numbered 0 to top: a filter has one, an estimator 32
 --   spread ps b f        b added to the buckets of ps
 --   negated n cs         the first n counts with their signs turned
 --   every want t l       each number of l is in t, or none is
 --   shows R f            the buckets below the size that look pure
 --   Listed ..            two lists hold the IDs of items, in peel order
 --   Peels ..             what a peeling leaves
+--   Counted ..           how a stratum's reading is counted
 --
 -- Assumes nothing.
 use mathlib.Core.Path.{_≡_}
 use mathlib.Core.Bool.{Bool, true, false, not, _&&_, cond}
-use mathlib.Core.List.{List, [], _∷_, reverse}
-use Prim.Native.Nat.{ℕ, zero, suc, _≤_, _<_}
+use mathlib.Core.List.{List, [], _∷_, map, reverse}
+use Prim.Native.Nat.{ℕ, zero, suc, _+_, _*_, min, _≤_, _<_}
 use lib.Dec.{ltb}
 use lib.IntN.{ℤ, pos, negℤ, natAbs}
 use lib.ListN.{length, getD, set}
 use Rattle.bucket.specs.Bucket.{Bucket, _⊕_, 𝟎}
 use Rattle.bucket.specs.Columns.{Columns}
+use Rattle.bucket.specs.Counts.{stratumOf}
+use Rattle.bucket.specs.Crc.{crcOf}
 use Rattle.bucket.specs.Lists.{elem, over}
+use Rattle.bucket.specs.Places.{places}
+use Rattle.bucket.specs.Salt.{salted, unsalted}
 use Rattle.filter.specs.Table.{firstEight, isTable}
 use Rattle.filter.specs.Filter.{Item, Rule, oursOf, theirsOf}
-use Rattle.filter.specs.Peeling.{Outcome, isPure}
+use Rattle.filter.specs.Peeling.{Outcome, isPure, isComplete}
 use Rattle.filter.specs.Calls.{inRange, areCounts, filled}
+use Rattle.filter.specs.Estimator.{strataVerdict}
 
 pub record Wide (n : ℕ) (c : Columns) : Type 0 where
   pub idsums : n ≤ length (c .idsums)
@@ -53,6 +60,15 @@ pub record Ready (size salt : ℕ) (t : List ℕ) (c : Columns) (o th : List ℕ
   pub received : Received size salt t c
   pub ours-room : size ≤ length o
   pub theirs-room : size ≤ length th
+
+abbrev pub layered : ℕ → ℕ → ℕ → ℕ → Rule
+layered top k size salt = record {
+  size = (top + 1) * size;
+  code = salted salt;
+  decode = unsalted salt;
+  places = λ w. map (λ i. size * min top (stratumOf w) + i) (places k size (crcOf w));
+  check = crcOf;
+}
 
 unfoldable pub spread : List ℕ → Bucket → (ℕ → Bucket) → ℕ → Bucket
 spread ps b f i = f i ⊕ cond (elem i ps) b 𝟎
@@ -90,3 +106,9 @@ pub record Peels (size : ℕ) (q : Outcome) (c₀ : Columns) (o₀ t₀ : List �
   pub few : length some ≤ size
   pub rest : ℕ → Bucket
   pub kept : c ≡ filled size rest c₀
+
+-- r is the definition's reading of the stratum
+pub record Counted (r : Outcome) (complete : Bool) (listed : ℕ) : Type 0 where
+  pub complete-is : complete ≡ isComplete (strataVerdict r)
+  pub listed-is : complete ≡ true → listed ≡ length (r .listed)
+  pub few : listed ≤ 79

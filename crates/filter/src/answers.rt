@@ -1,6 +1,6 @@
 // What calls answer, as enums. The definitions of specs/Answers give document 01's number and values for each case.
 ghost use mathlib.Core.Path.{_≡_};
-ghost use Rattle.filter.specs.Answers.{refusalNumber, answer, answerOf};
+ghost use Rattle.filter.specs.Answers.{refusalNumber, answer, answerOf, estimate, estimateAnswer};
 
 // Why a call is refused (document 01, "Refusal numbers"), for every layer.
 pub enum Refusal {
@@ -61,6 +61,22 @@ pub struct Answer {
     pub theirs: usize,
 }
 
+// What an estimating call answers: the estimate, or why it is refused.
+pub enum Estimation {
+    Made { estimate: u64 },
+    // a COUNT of one of the estimators is out of range
+    NotCounts,
+    // a column is too short
+    TooShort,
+}
+
+// The same in numbers.
+#[repr(C)]
+pub struct Estimate {
+    pub refusal: u32,
+    pub estimate: u64,
+}
+
 pub fn refusal_number(r: Refusal) -> u32
     ensures { λ n. ⌜ n ≡ refusalNumber r ⌝ }
 {
@@ -110,5 +126,27 @@ fn refused(why: Refusal) -> Answer
         complete: 0,
         ours: 0,
         theirs: 0,
+    }
+}
+
+pub fn estimate_numbers(e: Estimation) -> Estimate
+    ensures { λ n. ⌜ n ≡ estimateAnswer e ⌝ }
+{
+    match e {
+        Estimation::Made { estimate } => Estimate {
+            refusal: 0,
+            estimate: estimate,
+        },
+        Estimation::NotCounts => not_estimated(Refusal::Form),
+        Estimation::TooShort => not_estimated(Refusal::Room),
+    }
+}
+
+fn not_estimated(why: Refusal) -> Estimate
+    ensures { λ n. ⌜ n ≡ estimate (refusalNumber why) 0 ⌝ }
+{
+    Estimate {
+        refusal: refusal_number(why),
+        estimate: 0,
     }
 }

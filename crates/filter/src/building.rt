@@ -54,5 +54,5 @@ fn fill(
 {
     crate::clearing::clear_columns(ids, hashes, counts, size as usize);
     let k = bucket::places::place_count(size);
-    crate::adding::add_table(tab, table, ids, hashes, counts, size, salt, k);
+    crate::adding::add_table(tab, table, ids, hashes, counts, size, salt, k, 0);
 }

@@ -42,7 +42,7 @@ pub(crate) fn judge(
     Verdict::Complete
 }
 
-fn all_zero(ids: &[u64], hashes: &[u32], counts: &[i64], n: usize) -> bool
+pub(crate) fn all_zero(ids: &[u64], hashes: &[u32], counts: &[i64], n: usize) -> bool
     requires { ⌜ Wide n (columns (now ids) (now hashes) (now counts)) ⌝ }
     ensures { λ r. ⌜ r ≡ allZero (view (columns (now (ids .entry)) (now (hashes .entry)) (now (counts .entry)))) n ⌝ }
 {

@@ -14,6 +14,7 @@ ghost use Rattle.filter.specs.Filter.{Item, rule};
 ghost use Rattle.filter.specs.Peeling.{sided, reading, isPure};
 ghost use Rattle.filter.specs.Calls.{filled};
 ghost use Rattle.filter.specs.Marks.{Marks};
+ghost use Rattle.filter.specs.Repeats.{Chains};
 ghost use Rattle.filter.specs.Steps.{Wide, Small, Sound, spread, shows, Listed, Peels};
 
 // How a peeling ended: in order or not, and the lengths of the two lists.
@@ -23,7 +24,8 @@ pub(crate) struct Peeled {
     pub theirs: usize,
 }
 
-// Peels the first size buckets, k places an element, and lists the IDs without their salt.
+// Peels the first size buckets, k places an element, and lists the IDs without their salt. The last three arrays are lent to find repeats
+// by, and may hold what an earlier peeling left there.
 pub(crate) fn peel(
     tab: &[u32; 2048],
     ids: &mut [u64],
@@ -31,21 +33,23 @@ pub(crate) fn peel(
     counts: &mut [i64],
     ours: &mut [u64],
     theirs: &mut [u64],
+    heads: &mut [u16; 4096],
+    links: &mut [u16; 4096],
+    seen: &mut [u64; 4096],
     size: u32,
     salt: u32,
     k: usize,
 ) -> Peeled
     requires { ⌜ (now tab ≡ crcTables) × Sound size k salt × Wide size (columns (now ids) (now hashes) (now counts))
-        × (size ≤ length (now ours)) × (size ≤ length (now theirs)) × Small size (2 ^ 34) (columns (now ids) (now hashes) (now counts)) ⌝ }
+        × (size ≤ length (now ours)) × (size ≤ length (now theirs)) × Small size (2 ^ 34) (columns (now ids) (now hashes) (now counts))
+        × Chains 0 (now heads) (now links) (now seen) ⌝ }
     ensures { λ r. ⌜ Peels size (reading (rule k size salt) (view (columns (now (ids .entry)) (now (hashes .entry)) (now (counts .entry)))))
         (columns (now (ids .entry)) (now (hashes .entry)) (now (counts .entry))) (now (ours .entry)) (now (theirs .entry)) (r .fine)
-        (columns (now (ids .exit)) (now (hashes .exit)) (now (counts .exit))) (now (ours .exit)) (now (theirs .exit)) (r .ours) (r .theirs) ⌝ }
+        (columns (now (ids .exit)) (now (hashes .exit)) (now (counts .exit))) (now (ours .exit)) (now (theirs .exit)) (r .ours) (r .theirs)
+        × Chains 0 (now (heads .exit)) (now (links .exit)) (now (seen .exit)) ⌝ }
 {
     let n = size as usize;
     let mut bits = [0u64; 64];
-    let mut heads = [0u16; 4096];
-    let mut links = [0u16; 4096];
-    let mut seen = [0u64; 4096];
     let mut top = survey(tab, ids, hashes, counts, &mut bits, size, k);
     let mut m: usize = 0;
     let mut a: usize = 0;
@@ -63,7 +67,7 @@ pub(crate) fn peel(
                 theirs: t,
             };
         }
-        if crate::repeats::enroll(&mut heads, &mut links, &mut seen, m, id) {
+        if crate::repeats::enroll(heads, links, seen, m, id) {
             let e = enter(ours, theirs, a, t, id, s);
             a = e.ours;
             t = e.theirs;
@@ -101,8 +105,10 @@ fn survey(
     let mut t: u64 = 0;
     let mut b: usize = 0;
     while b < n {
-        if bucket::purity::looks_pure(tab, ids[b], hashes[b], counts[b], b as u32, size, k) {
-            t = crate::marks::mark(bits, t, b, true);
+        let s = counts[b];
+        if bucket::purity::is_one(s) {
+            let on = bucket::purity::looks_pure(tab, ids[b], hashes[b], s, b as u32, size, k);
+            t = crate::marks::mark(bits, t, b, on);
         }
         b += 1;
     }
@@ -166,8 +172,12 @@ fn settle(
         × Marks (shows (rule k size 0) (view (columns (now (ids .exit)) (now (hashes .exit)) (now (counts .exit))))) (now (bits .exit)) r ⌝ }
 {
     bucket::columns::subtract_at(ids, hashes, counts, b, x, h, s);
-    let on = bucket::purity::looks_pure(tab, ids[b], hashes[b], counts[b], b as u32, size, k);
-    crate::marks::mark(bits, top, b, on)
+    let c = counts[b];
+    if bucket::purity::is_one(c) {
+        let on = bucket::purity::looks_pure(tab, ids[b], hashes[b], c, b as u32, size, k);
+        return crate::marks::mark(bits, top, b, on);
+    }
+    crate::marks::mark(bits, top, b, false)
 }
 
 struct Lengths {

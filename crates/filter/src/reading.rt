@@ -77,7 +77,7 @@ fn has_all_room(
         & crate::forms::lists_have_room(ours, theirs, size)
 }
 
-// The CRC tables are made once a call, and lent down.
+// The CRC tables, and the arrays in which repeats are found, are made once a call and lent down.
 fn peel_difference(
     table: &[u8],
     ids: &mut [u64],
@@ -98,7 +98,23 @@ fn peel_difference(
     crate::clearing::clear_list(ours, size as usize);
     crate::clearing::clear_list(theirs, size as usize);
     let k = bucket::places::place_count(size);
-    crate::peeling::peel(&tab, ids, hashes, counts, ours, theirs, size, salt, k)
+    let mut heads = [0u16; 4096];
+    let mut links = [0u16; 4096];
+    let mut seen = [0u64; 4096];
+    crate::peeling::peel(
+        &tab,
+        ids,
+        hashes,
+        counts,
+        ours,
+        theirs,
+        &mut heads,
+        &mut links,
+        &mut seen,
+        size,
+        salt,
+        k,
+    )
 }
 
 // The received columns become ours minus received: their signs are turned, and our elements added.
@@ -118,7 +134,7 @@ fn subtract(
 {
     crate::clearing::negate(counts, size as usize);
     let k = bucket::places::place_count(size);
-    crate::adding::add_table(tab, table, ids, hashes, counts, size, salt, k);
+    crate::adding::add_table(tab, table, ids, hashes, counts, size, salt, k, 0);
 }
 
 fn clear_all(

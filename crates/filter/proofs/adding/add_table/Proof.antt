@@ -1,17 +1,19 @@
--- `adding::add_table` meets its contract: each element is spread over its places, which is what the rule puts there, and the counts stay far below 2^60.
+-- `adding::add_table` meets its contract: each element is spread over its places, all of its stratum, which is what the rule puts
+-- there, and the counts stay far below 2^60.
 -- The invariant: the columns and the filter of the elements still to come are together the columns at the start and the filter of the table.
 -- Assumes nothing.
-use mathlib.Core.Path.{_≡_, sym, _∙_}
+use mathlib.Core.Path.{_≡_, refl, sym, _∙_}
 use Prim.Native.Nat.{_-_}
 use native.Mathlib.Omega.{arith}
 use borrow.Author.Needs.{needs}
 use lib.ListN.{length}
 use Rattle.bucket.specs.Columns.{columns}
+use Rattle.bucket.specs.Crc.{crcOf}
 use Rattle.filter.specs.Table.{firstEight, idsOf}
+use Rattle.filter.specs.Steps.{layered}
 use Rattle.filter.proofs.SpreadLaws.{sound-any}
 use Rattle.filter.proofs.TableLaws.{hashes-length, ids-length}
 use Rattle.filter.proofs.GatherLaws.{
-  crc-given,
   Gathered,
   gathered-start,
   gathered-wide,
@@ -23,11 +25,11 @@ use Rattle.filter.proofs.adding.add_table.Statement.{statement}
 use Rattle.filter.proofs.adding.add_table.Tie as tie
 
 abbrev Inv-loop : tie.InvT-loop
-Inv-loop tab table ids₀ hashes₀ counts₀ size salt k n e₀ ids hashes counts e =
-    Gathered k size salt (idsOf firstEight table) (columns ids₀ hashes₀ counts₀) (columns ids hashes counts) e
+Inv-loop tab table ids₀ hashes₀ counts₀ size salt k top n e₀ ids hashes counts e =
+    Gathered (layered top k size salt) (idsOf firstEight table) (columns ids₀ hashes₀ counts₀) (columns ids hashes counts) e
 
 abbrev μ-loop : tie.MeasureT-loop
-μ-loop tab table ids₀ hashes₀ counts₀ size salt k n e₀ ids hashes counts e = n - e
+μ-loop tab table ids₀ hashes₀ counts₀ size salt k top n e₀ ids hashes counts e = n - e
 
 count-requires : tie.Need-count-requires Inv-loop μ-loop
 count-requires c κs = search needs
@@ -41,7 +43,7 @@ loop-holds : tie.Need-loop-holds Inv-loop μ-loop
 loop-holds c =
     let s = c .before .before .before .before in
     let a = s .args in
-    gathered-start (a .k) (a .size) (a .salt) (idsOf firstEight (a .table .now)) (columns (a .ids .now) (a .hashes .now) (a .counts .now)) (s .pre .4)
+    gathered-start (layered (a .top) (a .k) (a .size) (a .salt)) (idsOf firstEight (a .table .now)) (columns (a .ids .now) (a .hashes .now) (a .counts .now)) (s .pre .5)
 
 element-id-requires : tie.Need-element-id-requires Inv-loop μ-loop
 element-id-requires c κs = search needs
@@ -49,12 +51,9 @@ element-id-requires c κs = search needs
 salt-requires : tie.Need-salt-requires Inv-loop μ-loop
 salt-requires c κs = search needs
 
-crc-by-requires : tie.Need-crc-by-requires Inv-loop μ-loop
-crc-by-requires c κs = search needs
-
-add-to-places-requires : tie.Need-add-to-places-requires Inv-loop μ-loop
-add-to-places-requires c κs =
-    let l = c .before .before .before .before .before .before in
+add-element-requires : tie.Need-add-element-requires Inv-loop μ-loop
+add-element-requires c κs =
+    let l = c .before .before .before .before .before in
     let w = l .before .loop in
     let s = l .before .before .before .before .before .before in
     let a = s .args in
@@ -63,9 +62,10 @@ add-to-places-requires c κs =
     let c₁ = columns (w .ids) (w .hashes) (w .counts) in (
       s .pre .0,
       sound-any (a .size) (a .k) (a .salt) (s .pre .1),
-      gathered-wide (a .k) (a .size) (a .salt) (idsOf firstEight t) c₀ c₁ (w .e) (s .pre .3) (w .inv),
-      gathered-small (a .k) (a .size) (a .salt) (idsOf firstEight t) c₀ c₁ (w .e) (s .pre .3) (w .inv)
-          (omega (arith, s .pre .2, ids-length firstEight t)),
+      s .pre .2,
+      gathered-wide (layered (a .top) (a .k) (a .size) (a .salt)) (idsOf firstEight t) c₀ c₁ (w .e) (s .pre .4) (w .inv),
+      gathered-small (layered (a .top) (a .k) (a .size) (a .salt)) (idsOf firstEight t) c₀ c₁ (w .e) (s .pre .4) (w .inv)
+          (omega (arith, s .pre .3, ids-length firstEight t)),
     )
 
 add-e : tie.Need-add-e Inv-loop μ-loop
@@ -76,18 +76,18 @@ loop-less c = search needs
 
 loop-again : tie.Need-loop-again Inv-loop μ-loop
 loop-again c =
-    let t = c .before .before .before .before .before .add-to-places in
+    let t = c .before .before .before .before .before .add-element in
     let b = c .before .before .before .before .before .before .before .before .before in
-    let l = b .before .before .before in
+    let l = b .before .before in
     let w = l .before .loop in
     let s = l .before .before .before .before .before .before in
     let a = s .args in
-    gathered-next (a .k) (a .size) (a .salt) (idsOf firstEight (a .table .now))
+    gathered-next (layered (a .top) (a .k) (a .size) (a .salt)) (idsOf firstEight (a .table .now))
     (columns (a .ids .now) (a .hashes .now) (a .counts .now)) (columns (w .ids) (w .hashes) (w .counts)) (w .e)
-    (s .pre .3) (w .inv) (b .before .before .element-id .result) (b .before .salt .result) (b .crc-by .result)
-    (columns (t .last .1 .0) (t .last .1 .1 .0) (t .last .1 .1 .1 .0))
-    (omega (arith, counted (l .before .before), l .loop-test .taken)) (b .before .before .element-id .ensures) (b .before .salt .ensures)
-    (crc-given (a .tab .now) (b .before .salt .result) (b .crc-by .result) (s .pre .0) (b .crc-by .ensures)) (t .ensures)
+    (s .pre .4) (w .inv) (b .before .element-id .result) (b .salt .result) (crcOf (b .salt .result))
+    (layered (a .top) (a .k) (a .size) 0 .places (b .salt .result)) (columns (t .last .1 .0) (t .last .1 .1 .0) (t .last .1 .1 .1 .0))
+    (omega (arith, counted (l .before .before), l .loop-test .taken)) (b .before .element-id .ensures) (b .salt .ensures)
+    refl refl (t .ensures)
 
 same-length : tie.Need-same-length Inv-loop μ-loop
 same-length c = c .before .loop .inv .lengths .0
@@ -103,9 +103,9 @@ returns c =
     let w = c .before .loop in
     let s = c .before .before .before .before .before .before in
     let a = s .args in
-    gathered-end (a .k) (a .size) (a .salt) (idsOf firstEight (a .table .now))
+    gathered-end (layered (a .top) (a .k) (a .size) (a .salt)) (idsOf firstEight (a .table .now))
     (columns (a .ids .now) (a .hashes .now) (a .counts .now)) (columns (w .ids) (w .hashes) (w .counts)) (w .e)
-    (s .pre .3) (w .inv) (omega (arith, counted (c .before .before), c .loop-test .left))
+    (s .pre .4) (w .inv) (omega (arith, counted (c .before .before), c .loop-test .left))
 
 pub add-table-spec : {M : Type 1} → statement M
 add-table-spec =
@@ -117,8 +117,7 @@ add-table-spec =
     loop-holds
     element-id-requires
     salt-requires
-    crc-by-requires
-    add-to-places-requires
+    add-element-requires
     add-e
     loop-less
     loop-again

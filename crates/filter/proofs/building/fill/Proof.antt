@@ -1,8 +1,9 @@
 -- `building::fill` meets its contract: the columns are cleared, and the table's filter is added to nothing. Assumes nothing.
-use mathlib.Core.Path.{sym, subst}
-use Prim.Native.Nat.{_^_}
+use mathlib.Core.Path.{sym, ap, subst}
+use Prim.Native.Nat.{ℕ, _^_}
+use native.Mathlib.Omega.{arith}
 use denote.Ref.{now}
-use Rattle.bucket.specs.Bucket.{𝟎}
+use Rattle.bucket.specs.Bucket.{Bucket, 𝟎}
 use Rattle.bucket.specs.Columns.{columns}
 use Rattle.bucket.specs.Places.{placeCount}
 use Rattle.filter.specs.Table.{firstEight, idsOf}
@@ -11,6 +12,7 @@ use Rattle.filter.specs.Steps.{Wide, Small}
 use Rattle.filter.proofs.FilledLaws.{wide-of, wide-filled}
 use Rattle.filter.proofs.PartLaws.{range-sound, small-cleared, built-after}
 use Rattle.filter.proofs.TableLaws.{table-count}
+use Rattle.filter.proofs.LayerLaws.{one-wide, one-small, added-filter}
 use borrow.Author.Needs.{needs}
 use Rattle.filter.proofs.building.fill.Statement.{statement}
 use Rattle.filter.proofs.building.fill.Tie as tie
@@ -28,9 +30,10 @@ add-table-requires c κs =
     let e = c .before .before .before .before .before .before .before .before .before .clear-columns .ensures in (
       s .pre .0,
       rw (c .before .before .before .place-count .ensures) (range-sound (s .args .size) (s .args .salt) (s .pre .2)),
+      omega arith,
       table-count (now (s .args .table)) (s .pre .1),
-      subst (Wide (s .args .size)) (sym e) (wide-filled (s .args .size) (s .args .size) (λ i. 𝟎) (columns (now (s .args .ids)) (now (s .args .hashes)) (now (s .args .counts))) w),
-      subst (Small (s .args .size) (2 ^ 33)) (sym e) (small-cleared (s .args .size) (columns (now (s .args .ids)) (now (s .args .hashes)) (now (s .args .counts))) w),
+      one-wide (s .args .size) _ (subst (Wide (s .args .size)) (sym e) (wide-filled (s .args .size) (s .args .size) (λ i. 𝟎) (columns (now (s .args .ids)) (now (s .args .hashes)) (now (s .args .counts))) w)),
+      one-small (s .args .size) (2 ^ 33) _ (subst (Small (s .args .size) (2 ^ 33)) (sym e) (small-cleared (s .args .size) (columns (now (s .args .ids)) (now (s .args .hashes)) (now (s .args .counts))) w)),
     )
 
 same-length : tie.Need-same-length
@@ -45,8 +48,10 @@ same-length-3 c = search needs
 returns : tie.Need-returns
 returns c =
     let s = c .before .before .before .before .before .before .before .before .before .before .before .before .before .before .before .before .before .before .before .before .before .before in
-    built-after (s .args .size) (placeCount (s .args .size)) (λ k. filterOf (rule k (s .args .size) (s .args .salt)) (idsOf firstEight (now (s .args .table)))) (columns (now (s .args .ids)) (now (s .args .hashes)) (now (s .args .counts)))
-    (wide-of (s .args .size) (columns (now (s .args .ids)) (now (s .args .hashes)) (now (s .args .counts))) (s .pre .3)) (c .before .before .before .before .before .before .before .before .before .place-count .result) (c .before .before .before .before .before .before .before .before .before .before .before .before .before .before .before .clear-columns .ensures) (c .before .before .before .before .before .before .before .before .before .place-count .ensures) (c .before .before .before .before .before .add-table .ensures)
+    let c₀ = columns (now (s .args .ids)) (now (s .args .hashes)) (now (s .args .counts)) in
+    let filter : ℕ → ℕ → Bucket = λ k. filterOf (rule k (s .args .size) (s .args .salt)) (idsOf firstEight (now (s .args .table))) in
+    built-after (s .args .size) (filter (placeCount (s .args .size))) c₀ (wide-of (s .args .size) c₀ (s .pre .3))
+    (c .before .before .before .before .before .before .before .before .before .before .before .before .before .before .before .clear-columns .ensures) (ap filter (c .before .before .before .before .before .before .before .before .before .place-count .ensures)) (added-filter (c .before .before .before .before .before .before .before .before .before .place-count .result) (s .args .size) (s .args .salt) (idsOf firstEight (now (s .args .table))) _ _ (c .before .before .before .before .before .add-table .ensures))
 
 pub fill-spec : {M : Type 1} → statement M
 fill-spec =

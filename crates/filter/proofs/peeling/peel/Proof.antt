@@ -25,6 +25,7 @@ use Rattle.filter.proofs.StepLaws.{
   peeling-lengths,
   peeling-wide,
   peeling-small,
+  peeling-again,
   peeling-count,
   peeling-ours,
   peeling-theirs,
@@ -41,7 +42,7 @@ use Rattle.filter.proofs.peeling.peel.Statement.{statement}
 use Rattle.filter.proofs.peeling.peel.Tie as tie
 
 abbrev Inv-loop : tie.InvT-loop
-Inv-loop tab ids₀ hashes₀ counts₀ ours₀ theirs₀ size salt k n bits₀ heads₀ links₀ seen₀ top₀ m₀ a₀ t₀ ids hashes counts ours theirs bits heads links seen top m a t =
+Inv-loop tab ids₀ hashes₀ counts₀ ours₀ theirs₀ heads₀ links₀ seen₀ size salt k n bits₀ top₀ m₀ a₀ t₀ ids hashes counts ours theirs heads links seen bits top m a t =
     Peeling
     (record { size = size; k = k; salt = salt; columns = columns ids₀ hashes₀ counts₀; ours = ours₀; theirs = theirs₀ })
     (record {
@@ -59,7 +60,7 @@ Inv-loop tab ids₀ hashes₀ counts₀ ours₀ theirs₀ size salt k n bits₀ 
     })
 
 abbrev μ-loop : tie.MeasureT-loop
-μ-loop tab ids₀ hashes₀ counts₀ ours₀ theirs₀ size salt k n bits₀ heads₀ links₀ seen₀ top₀ m₀ a₀ t₀ ids hashes counts ours theirs bits heads links seen top m a t =
+μ-loop tab ids₀ hashes₀ counts₀ ours₀ theirs₀ heads₀ links₀ seen₀ size salt k n bits₀ top₀ m₀ a₀ t₀ ids hashes counts ours theirs heads links seen bits top m a t =
     size + 1 - m
 
 -- what was given, and what is held before a turn
@@ -166,8 +167,8 @@ loop-holds c =
       ours = a .ours .now;
       theirs = a .theirs .now;
     })
-    (c .survey .last .1 .1 .1 .1 .0) (c .survey .result) 4096
-    (record { sound = s .pre .1; wide = s .pre .2; ours = s .pre .3; theirs = s .pre .4; small = s .pre .5 }) refl (c .survey .ensures)
+    (c .survey .last .1 .1 .1 .1 .0) (a .heads .now) (a .links .now) (a .seen .now) (c .survey .result)
+    (record { sound = s .pre .1; wide = s .pre .2; ours = s .pre .3; theirs = s .pre .4; small = s .pre .5 }) (s .pre .6) (c .survey .ensures)
 
 least-requires : tie.Need-least-requires Inv-loop μ-loop
 least-requires c κs = c .before .loop-test .taken
@@ -211,7 +212,10 @@ same-length-5 c = same-theirs (head (c .before))
 returns : tie.Need-returns Inv-loop μ-loop
 returns c =
     let u = c .before in
-    peeling-full (input (head u)) (state (head u)) (head u .loop .inv) (found u) (c .if1 .taken)
+    let l = head u in (
+      peeling-full (input l) (state l) (l .loop .inv) (found u) (c .if1 .taken),
+      peeling-again (input l) (state l) (l .loop .inv),
+    )
 
 enroll-requires : tie.Need-enroll-requires Inv-loop μ-loop
 enroll-requires c κs =
@@ -302,8 +306,11 @@ returns-2 : tie.Need-returns-2 Inv-loop μ-loop
 returns-2 c =
     let r = c .before .enroll in
     let u = c .before .before .before .before .before .before in
-    let l = head u in
-    peeling-repeated (input l) (state l) (l .loop .inv) (found u) (r .result) (r .last .0) (r .last .1 .0) (r .last .1 .1 .0) (r .ensures) (c .if2 .left)
+    let l = head u in (
+      peeling-repeated (input l) (state l) (l .loop .inv) (found u) (r .result) (r .last .0) (r .last .1 .0) (r .last .1 .1 .0) (r .ensures)
+          (c .if2 .left),
+      r .ensures .again,
+    )
 
 same-length-11 : tie.Need-same-length-11 Inv-loop μ-loop
 same-length-11 c = lengths (c .before) .0
@@ -322,8 +329,7 @@ same-length-15 c = same-theirs (c .before)
 
 returns-3 : tie.Need-returns-3 Inv-loop μ-loop
 returns-3 c =
-    let l = c .before in
-    peeling-done (input l) (state l) (l .loop .inv) (c .loop-test .left)
+    let l = c .before in (peeling-done (input l) (state l) (l .loop .inv) (c .loop-test .left), peeling-again (input l) (state l) (l .loop .inv))
 
 pub peel-spec : {M : Type 1} → statement M
 peel-spec =

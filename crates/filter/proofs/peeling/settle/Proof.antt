@@ -1,5 +1,6 @@
 -- The bucket is open to the element, so it loses it; its new look is the code's test, and no other bucket has changed. Assumes nothing.
 use mathlib.Core.Path.{_≡_, ap, _∙_, subst}
+use mathlib.Core.Bool.{false}
 use lib.IntN.{ℤ}
 use mir.Syntax.{w64}
 use mir.ValLaws.{toZ-ofZ}
@@ -8,7 +9,7 @@ use Rattle.bucket.specs.Columns.{Columns, columns, view, place, subtracted}
 use Rattle.filter.specs.Filter.{Rule, rule}
 use Rattle.filter.specs.Peeling.{isPure}
 use Rattle.filter.specs.Steps.{shows}
-use Rattle.filter.proofs.ShowLaws.{pure-read, shows-place}
+use Rattle.filter.proofs.ShowLaws.{pure-read, impure-read, shows-place}
 use Rattle.filter.proofs.TakingLaws.{subtracted-open}
 use borrow.Author.Needs.{needs, sfits-of}
 use Rattle.filter.proofs.peeling.settle.Statement.{statement}
@@ -16,6 +17,15 @@ use Rattle.filter.proofs.peeling.settle.Tie as tie
 
 subtract-at-requires : tie.Need-subtract-at-requires
 subtract-at-requires c κs = search needs
+
+mul-c : tie.Need-mul-c
+mul-c c = search needs
+
+slice-copy-out-c : tie.Need-slice-copy-out-c
+slice-copy-out-c c = search needs
+
+is-one-requires : tie.Need-is-one-requires
+is-one-requires c κs = search needs
 
 mul-looks-pure : tie.Need-mul-looks-pure
 mul-looks-pure c = search needs
@@ -28,12 +38,6 @@ mul-looks-pure-2 c = search needs
 
 slice-read-looks-pure-2 : tie.Need-slice-read-looks-pure-2
 slice-read-looks-pure-2 c = search needs
-
-mul-looks-pure-3 : tie.Need-mul-looks-pure-3
-mul-looks-pure-3 c = search needs
-
-slice-copy-out-looks-pure : tie.Need-slice-copy-out-looks-pure
-slice-copy-out-looks-pure c = search needs
 
 cast-looks-pure : tie.Need-cast-looks-pure
 cast-looks-pure c = search needs
@@ -53,22 +57,35 @@ same-length-2 c = search needs
 same-length-3 : tie.Need-same-length-3
 same-length-3 c = search needs
 
+-- what the bucket lost
+gone : (c : tie.After-subtract-at) → let s = c .before .before .before .before .before .before in
+    let a = s .args in
+    let was : Columns = columns (a .ids .now) (a .hashes .now) (a .counts .now) in
+    let t = c .subtract-at in
+    columns (t .last .0) (t .last .1 .0) (t .last .1 .1 .0) ≡ place was (a .b) (view was (a .b) ⊕ neg (bucket (a .x) (a .h) (a .s)))
+gone c =
+    let s = c .before .before .before .before .before .before in
+    let a = s .args in
+    let t = c .subtract-at in
+    let was : Columns = columns (a .ids .now) (a .hashes .now) (a .counts .now) in
+    let is : Columns = columns (t .last .0) (t .last .1 .0) (t .last .1 .1 .0) in
+    subtracted-open was (a .size) (a .b) (bucket (a .x) (a .h) (a .s)) (s .pre .3) (s .pre .5) (s .pre .2) (s .pre .4) is
+    (subst (λ (z : ℤ). is ≡ subtracted was (a .b) (bucket (a .x) (a .h) z)) (toZ-ofZ w64 (a .s) (s .fits .s)) (t .ensures))
+
 returns : tie.Need-returns
 returns c =
-    let s = c .before .before .before .before .before .before .before .before .before .before .before .before .before .before .before .before .before in
+    let s = c .before .before .before .before .before .before .before .before .before .before .before .before .before .before .before .before .before .before .before in
     let a = s .args in
-    let t = c .before .before .before .before .before .before .before .before .before .before .before .subtract-at in
+    let t = c .before .before .before .before .before .before .before .before .before .before .before .before .before .subtract-at in
     let was : Columns = columns (a .ids .now) (a .hashes .now) (a .counts .now) in
     let is : Columns = columns (t .last .0) (t .last .1 .0) (t .last .1 .1 .0) in
     let R : Rule = rule (a .k) (a .size) 0 in
     let left : Bucket = view was (a .b) ⊕ neg (bucket (a .x) (a .h) (a .s)) in
-    let done : is ≡ place was (a .b) left =
-    subtracted-open was (a .size) (a .b) (bucket (a .x) (a .h) (a .s)) (s .pre .3) (s .pre .5) (s .pre .2) (s .pre .4) is
-    (subst (λ (z : ℤ). is ≡ subtracted was (a .b) (bucket (a .x) (a .h) z)) (toZ-ofZ w64 (a .s) (s .fits .s)) (t .ensures)) in
+    let done = gone (c .before .before .before .before .before .before .before .before .before .before .before .before .before) in
     let on = c .before .before .looks-pure in
     let pure : on .result ≡ isPure R (a .b) (view is (a .b)) =
     pure-read (a .k) (a .size) (a .tab .now) 0 (a .b) (t .last .0) (t .last .1 .0) (t .last .1 .1 .0) (on .result)
-    (s .pre .0) (s .pre .1 .few) (sfits-of (c .before .before .before .looks-pure-arg .given)) (on .ensures) in (
+    (s .pre .0) (s .pre .1 .few) (sfits-of (c .before .before .before .before .before .before .before .c .given)) (on .ensures) in (
       done,
       rw done
           (shows-place R (a .b) was left (c .mark .last .0) (c .mark .result) (on .result) (s .pre .2)
@@ -76,21 +93,60 @@ returns c =
           (c .mark .ensures (shows R (view was)) (s .pre .6))),
     )
 
+mark-requires-2 : tie.Need-mark-requires-2
+mark-requires-2 c κs = search needs
+
+same-length-4 : tie.Need-same-length-4
+same-length-4 c = search needs
+
+same-length-5 : tie.Need-same-length-5
+same-length-5 c = search needs
+
+same-length-6 : tie.Need-same-length-6
+same-length-6 c = search needs
+
+returns-2 : tie.Need-returns-2
+returns-2 c =
+    let s = c .before .before .before .before .before .before .before .before .before .before .before .before .before .before .before .before in
+    let a = s .args in
+    let t = c .before .before .before .before .before .before .before .before .before .before .subtract-at in
+    let was : Columns = columns (a .ids .now) (a .hashes .now) (a .counts .now) in
+    let is : Columns = columns (t .last .0) (t .last .1 .0) (t .last .1 .1 .0) in
+    let R : Rule = rule (a .k) (a .size) 0 in
+    let left : Bucket = view was (a .b) ⊕ neg (bucket (a .x) (a .h) (a .s)) in
+    let done = gone (c .before .before .before .before .before .before .before .before .before .before) in
+    let one = c .before .before .before .is-one in
+    let pure : false ≡ isPure R (a .b) (view is (a .b)) =
+    impure-read (a .k) (a .size) 0 (a .b) (t .last .0) (t .last .1 .0) (t .last .1 .1 .0) (one .result)
+    (sfits-of (c .before .before .before .before .c .given)) (one .ensures) (c .before .before .if1 .left) in (
+      done,
+      rw done
+          (shows-place R (a .b) was left (c .mark2 .last .0) (c .mark2 .result) false (s .pre .2)
+          (pure ∙ ap (λ (q : Columns). isPure R (a .b) (view q (a .b))) done)
+          (c .mark2 .ensures (shows R (view was)) (s .pre .6))),
+    )
+
 pub settle-spec : {M : Type 1} → statement M
 settle-spec =
     tie.close
     (tie.spec
     subtract-at-requires
+    mul-c
+    slice-copy-out-c
+    is-one-requires
     mul-looks-pure
     slice-read-looks-pure
     mul-looks-pure-2
     slice-read-looks-pure-2
-    mul-looks-pure-3
-    slice-copy-out-looks-pure
     cast-looks-pure
     looks-pure-requires
     mark-requires
     same-length
     same-length-2
     same-length-3
-    returns)
+    returns
+    mark-requires-2
+    same-length-4
+    same-length-5
+    same-length-6
+    returns-2)

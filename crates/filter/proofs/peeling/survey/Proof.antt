@@ -7,7 +7,7 @@ use borrow.Author.Needs.{needs, sfits-of}
 use Rattle.bucket.specs.Columns.{columns, view}
 use Rattle.filter.specs.Filter.{rule}
 use Rattle.filter.specs.Marks.{Marks}
-use Rattle.filter.proofs.ShowLaws.{pure-read, showsBelow, shows-start, shows-yes, shows-no}
+use Rattle.filter.proofs.ShowLaws.{pure-read, impure-read, showsBelow, shows-start, shows-on, shows-no}
 use Rattle.filter.proofs.peeling.survey.Statement.{statement}
 use Rattle.filter.proofs.peeling.survey.Tie as tie
 
@@ -25,6 +25,15 @@ loop-holds c =
     let f = view (columns (a .ids .now) (a .hashes .now) (a .counts .now)) in
     (omega arith, shows-start (rule (a .k) (a .size) 0) f (a .bits .now) 0 (s .pre .3))
 
+mul-s : tie.Need-mul-s Inv-loop μ-loop
+mul-s c = search needs
+
+shared-slice-copy-out-s : tie.Need-shared-slice-copy-out-s Inv-loop μ-loop
+shared-slice-copy-out-s c = search needs
+
+is-one-requires : tie.Need-is-one-requires Inv-loop μ-loop
+is-one-requires c κs = search needs
+
 mul-looks-pure : tie.Need-mul-looks-pure Inv-loop μ-loop
 mul-looks-pure c = search needs
 
@@ -36,12 +45,6 @@ mul-looks-pure-2 c = search needs
 
 shared-slice-read-looks-pure-2 : tie.Need-shared-slice-read-looks-pure-2 Inv-loop μ-loop
 shared-slice-read-looks-pure-2 c = search needs
-
-mul-looks-pure-3 : tie.Need-mul-looks-pure-3 Inv-loop μ-loop
-mul-looks-pure-3 c = search needs
-
-shared-slice-copy-out-looks-pure : tie.Need-shared-slice-copy-out-looks-pure Inv-loop μ-loop
-shared-slice-copy-out-looks-pure c = search needs
 
 cast-looks-pure : tie.Need-cast-looks-pure Inv-loop μ-loop
 cast-looks-pure c = search needs
@@ -60,19 +63,21 @@ loop-less c = search needs
 
 loop-again : tie.Need-loop-again Inv-loop μ-loop
 loop-again c =
-    let s = c .before .before .before .before .before .before .before .before .before in
+    let s = c .before .before .before .before .before .before .before in
     let a = s .args in
-    let w = c .before .before .before .before .before .before .loop in
+    let w = c .before .before .before .before .loop in
     let R = rule (a .k) (a .size) 0 in
     let f = view (columns (a .ids .now) (a .hashes .now) (a .counts .now)) in
-    let e =
-    pure-read (a .k) (a .size) (a .tab .now) 0 (w .b) (a .ids .now) (a .hashes .now) (a .counts .now) (c .before .looks-pure .result)
-    (s .pre .0) (s .pre .1 .few) (sfits-of (c .before .before .looks-pure-arg .given)) (c .before .looks-pure .ensures) in (
+    let fit = sfits-of (c .before .before .s .given) in (
       omega arith,
       ⊎-elim
-          (λ v. rw (v .3, v .4) (shows-yes R f (w .b) (v .2 .last .0) (v .2 .result) (sym e ∙ v .0 .taken)
-          (v .2 .ensures (showsBelow R f (w .b)) (w .inv .1))))
-          (λ v. rw (v .1, v .2) (shows-no R f (w .b) (w .bits) (w .t) (sym e ∙ v .0 .left) (w .inv .1)))
+          (λ v. rw (v .6, v .7) (shows-on R f (w .b) (v .5 .last .0) (v .5 .result) (v .3 .result)
+          (pure-read (a .k) (a .size) (a .tab .now) 0 (w .b) (a .ids .now) (a .hashes .now) (a .counts .now) (v .3 .result)
+          (s .pre .0) (s .pre .1 .few) fit (v .3 .ensures))
+          (v .5 .ensures (showsBelow R f (w .b)) (w .inv .1))))
+          (λ v. rw (v .1, v .2) (shows-no R f (w .b) (w .bits) (w .t)
+          (sym (impure-read (a .k) (a .size) 0 (w .b) (a .ids .now) (a .hashes .now) (a .counts .now) (c .before .is-one .result) fit (c .before .is-one .ensures) (v .0 .left)))
+          (w .inv .1)))
           (c .if1 .came),
     )
 
@@ -92,12 +97,13 @@ survey-spec =
     Inv-loop
     μ-loop
     loop-holds
+    mul-s
+    shared-slice-copy-out-s
+    is-one-requires
     mul-looks-pure
     shared-slice-read-looks-pure
     mul-looks-pure-2
     shared-slice-read-looks-pure-2
-    mul-looks-pure-3
-    shared-slice-copy-out-looks-pure
     cast-looks-pure
     looks-pure-requires
     mark-requires

@@ -1,7 +1,7 @@
 -- `filter::repeats::is_noted` meets its contract. The invariant: no number from p on is v, and p - 1 is of v's chain. Links go down, so p is
 -- the measure. Assumes nothing.
 use mathlib.Core.Path.{sym}
-use Prim.Native.Nat.{_-_, _%_, _<_}
+use Prim.Native.Nat.{_-_, _<_}
 use native.Mathlib.Omega.{arith}
 use borrow.Author.Needs.{needs}
 use Rattle.filter.proofs.RepeatLaws.{Walk, walk-start, walk-on, upto-none, upto-some}
@@ -9,26 +9,18 @@ use Rattle.filter.proofs.repeats.is_noted.Statement.{statement}
 use Rattle.filter.proofs.repeats.is_noted.Tie as tie
 
 abbrev Inv-loop : tie.InvT-loop
-Inv-loop heads links seen n v q p₀ p = Walk seen n v p
+Inv-loop heads links seen n v p₀ p = Walk seen n v p
 
 abbrev μ-loop : tie.MeasureT-loop
-μ-loop heads links seen n v q p₀ p = p
+μ-loop heads links seen n v p₀ p = p
 
-mul-p : tie.Need-mul-p Inv-loop μ-loop
-mul-p c = search needs
-
-element-copy-out-p : tie.Need-element-copy-out-p Inv-loop μ-loop
-element-copy-out-p c = search needs
-
-cast-p : tie.Need-cast-p Inv-loop μ-loop
-cast-p c =
-    let s = c .before in
-    omega (arith, s .pre .heads-in (s .args .v % 4096) (omega arith) .within, s .pre .few)
+head-requires : tie.Need-head-requires Inv-loop μ-loop
+head-requires c κs = search needs
 
 loop-holds : tie.Need-loop-holds Inv-loop μ-loop
 loop-holds c =
-    let s = c .before in
-    walk-start (s .args .n) (s .args .heads .now) (s .args .links .now) (s .args .seen .now) (s .args .v) (s .pre)
+    let a = c .before .args in
+    walk-start (a .n) (a .seen .now) (a .v) (c .head .result) (c .head .ensures)
 
 sub-k : tie.Need-sub-k Inv-loop μ-loop
 sub-k c = search needs
@@ -45,18 +37,18 @@ returns c =
     let w = c .before .before .before .loop in
     sym (upto-some (a .seen .now) (a .n) (a .v) (w .p - 1) (omega (arith, w .inv .within, c .before .before .loop-test .taken)) (c .if1 .taken))
 
-mul-p-2 : tie.Need-mul-p-2 Inv-loop μ-loop
-mul-p-2 c = search needs
+mul-p : tie.Need-mul-p Inv-loop μ-loop
+mul-p c = search needs
 
-element-copy-out-p-2 : tie.Need-element-copy-out-p-2 Inv-loop μ-loop
-element-copy-out-p-2 c = search needs
+element-copy-out-p : tie.Need-element-copy-out-p Inv-loop μ-loop
+element-copy-out-p c = search needs
 
-cast-p-2 : tie.Need-cast-p-2 Inv-loop μ-loop
-cast-p-2 c =
+cast-p : tie.Need-cast-p Inv-loop μ-loop
+cast-p c =
     let s = c .before .before .before .before .before .before in
     let w = c .before .before .before .before .loop in
     let inside : w .p - 1 < s .args .n = omega (arith, w .inv .within, c .before .before .before .loop-test .taken) in
-    omega (arith, s .pre .links-in (w .p - 1) inside .within, s .pre .few, w .inv .within)
+    omega (arith, s .pre .links-in (w .p - 1) inside .within, s .pre .headed .few, w .inv .within)
 
 loop-less : tie.Need-loop-less Inv-loop μ-loop
 loop-less c =
@@ -85,17 +77,15 @@ is-noted-spec =
     (tie.spec
     Inv-loop
     μ-loop
-    mul-p
-    element-copy-out-p
-    cast-p
+    head-requires
     loop-holds
     sub-k
     mul-if1
     element-copy-out-if1
     returns
-    mul-p-2
-    element-copy-out-p-2
-    cast-p-2
+    mul-p
+    element-copy-out-p
+    cast-p
     loop-less
     loop-again
     returns-2)

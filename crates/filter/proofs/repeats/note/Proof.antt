@@ -6,14 +6,14 @@ use Rattle.filter.proofs.RepeatLaws.{chains-noted, upto-noted}
 use Rattle.filter.proofs.repeats.note.Statement.{statement}
 use Rattle.filter.proofs.repeats.note.Tie as tie
 
+head-requires : tie.Need-head-requires
+head-requires c κs = search needs
+
+cast-links : tie.Need-cast-links
+cast-links c = search needs
+
 mul-links : tie.Need-mul-links
 mul-links c = search needs
-
-element-copy-out-links : tie.Need-element-copy-out-links
-element-copy-out-links c = search needs
-
-mul-links-2 : tie.Need-mul-links-2
-mul-links-2 c = search needs
 
 element-write-links : tie.Need-element-write-links
 element-write-links c = search needs
@@ -38,19 +38,19 @@ element-write-seen c = search needs
 
 returns : tie.Need-returns
 returns c =
-    let s = c .before in
+    let s = c .before .before .before in
     let a = s .args in (
-      chains-noted (a .n) (a .heads .now) (a .links .now) (a .seen .now) (a .v) (s .pre .0) (s .pre .1),
-      upto-noted (a .seen .now) (a .n) (a .v) (omega (arith, s .pre .1 .seen-len, s .pre .0)),
+      chains-noted (a .n) (a .heads .now) (a .links .now) (a .seen .now) (a .v) (c .head .result) (s .pre .0) (s .pre .1) (c .head .ensures),
+      upto-noted (a .seen .now) (a .n) (a .v) (omega (arith, s .pre .1 .headed .seen-len, s .pre .0)),
     )
 
 pub note-spec : {M : Type 1} → statement M
 note-spec =
     tie.close
     (tie.spec
+    head-requires
+    cast-links
     mul-links
-    element-copy-out-links
-    mul-links-2
     element-write-links
     add-heads
     cast-heads

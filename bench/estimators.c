@@ -1,0 +1,367 @@
+/* Nanoseconds per call of the library's building of an estimator and of its estimating, and of
+ * plain C beside them. How it is used stands in jobs.h.
+ *
+ * Both sides get the same memory and do all of the work: the form of what they are given, the
+ * CRC tables (made in each call), the subtraction and the peels.
+ */
+#define _POSIX_C_SOURCE 199309L
+#include "jobs.h"
+
+#include "../include/tandawire.h"
+#include "estimator.h"
+#include "row.h"
+#include "tables.h"
+
+/* ---- The tables and columns of a job or a check ---- */
+
+static struct tables tables;
+
+/* With some places behind, which no call may touch. */
+enum { ROOM = PLACES + 8 };
+
+struct columns {
+    uint64_t ids[ROOM];
+    int64_t counts[ROOM];
+    uint32_t hashes[ROOM];
+};
+
+/* What is lent to an estimate. A building gets the first columns alone. */
+struct lent {
+    struct columns first, second;
+};
+
+static const struct side {
+    uint32_t (*build)(const uint8_t *, size_t, uint64_t *, size_t, uint32_t *, size_t, int64_t *,
+                      size_t);
+    tandawire_estimation (*estimate)(uint64_t *, size_t, uint32_t *, size_t, int64_t *, size_t,
+                                     const uint64_t *, size_t, const uint32_t *, size_t,
+                                     const int64_t *, size_t);
+} sides[2] = {{tandawire_estimator_build, tandawire_estimate}, {c_estimator_build, c_estimate}};
+
+/* The columns given, and what each side leaves of them. */
+static struct lent given, left[2];
+
+/* The length each slice is said to have: IDs, hashes and counts of the first and the second. */
+static const size_t whole[6] = {ROOM, ROOM, ROOM, ROOM, ROOM, ROOM};
+
+static uint32_t build(int side, const uint8_t *table, size_t length, struct columns *c,
+                      const size_t room[6])
+{
+    return sides[side].build(table, length, c->ids, room[0], c->hashes, room[1], c->counts,
+                             room[2]);
+}
+
+static tandawire_estimation estimate(int side, struct lent *l, const size_t room[6])
+{
+    struct columns *a = &l->first, *b = &l->second;
+    return sides[side].estimate(a->ids, room[0], a->hashes, room[1], a->counts, room[2], b->ids,
+                                room[3], b->hashes, room[4], b->counts, room[5]);
+}
+
+/* Noise everywhere, then our estimator and theirs in the columns, by the C. */
+static void receive(void)
+{
+    memset(&given, 0xA5, sizeof given);
+    build(1, tables.ours, tables.ours_length, &given.first, whole);
+    build(1, tables.theirs, tables.theirs_length, &given.second, whole);
+}
+
+/* ---- The check ---- */
+
+static crc_tables t;
+
+/* Whether both sides answer the building of our table so, and leave the same. */
+static int builds(const size_t room[6], uint32_t refusal)
+{
+    for (int i = 0; i < 2; i++) {
+        left[i] = given;
+        if (build(i, tables.ours, tables.ours_length, &left[i].first, room) != refusal)
+            return 0;
+    }
+    return memcmp(&left[0], &left[1], sizeof left[0]) == 0 &&
+           (refusal == 0 || memcmp(&left[0], &given, sizeof given) == 0);
+}
+
+/* Whether both sides answer an estimate alike and leave the same, the second as it was and, if
+ * they refuse, everything. */
+static int agree(const size_t room[6], tandawire_estimation *answer)
+{
+    tandawire_estimation a[2];
+    for (int i = 0; i < 2; i++) {
+        left[i] = given;
+        a[i] = estimate(i, &left[i], room);
+    }
+    *answer = a[0];
+    return memcmp(&left[0], &left[1], sizeof left[0]) == 0 && a[0].refusal == a[1].refusal &&
+           a[0].estimate == a[1].estimate &&
+           memcmp(&left[0].second, &given.second, sizeof given.second) == 0 &&
+           (a[0].refusal == 0 || memcmp(&left[0], &given, sizeof given) == 0);
+}
+
+/* The same with the answer known. */
+static int answers(const size_t room[6], uint32_t refusal, uint64_t estimate)
+{
+    tandawire_estimation a;
+    return agree(room, &a) && a.refusal == refusal && a.estimate == estimate;
+}
+
+/* Clears up to 32 low bits of each ID, the same ones in both tables: all strata are met. */
+static void deepen(uint8_t *table, size_t length)
+{
+    for (uint8_t *hash = table; hash < table + length; hash += HASH)
+        for (int bit = 0; bit < hash[8] % 33; bit++)
+            hash[7 - bit / 8] &= (uint8_t)~(1 << bit % 8);
+}
+
+/* Differences of either side and of both, from none to all; as they come, and in all strata. */
+static int differences_agree(void)
+{
+    static const size_t differences[] = {0,   1,   2,   5,   10,   20,   40,
+                                         100, 200, 500, 1000, 2000, 4096};
+    unsigned exact = 0, other = 0, none = 0;
+    for (size_t i = 0; i < 3 * sizeof differences / sizeof differences[0]; i++)
+        for (int again = 0; again < 8; again++) {
+            size_t d = differences[i / 3], ours = i % 3 == 0 ? d : i % 3 == 1 ? 0 : d / 2;
+            size_t more = ours > d - ours ? ours : d - ours;
+            tandawire_estimation a;
+            make(&tables, again < 2 ? MOST - more : 0, ours, d - ours);
+            if (again % 2 == 1) {
+                deepen(tables.ours, tables.ours_length);
+                deepen(tables.theirs, tables.theirs_length);
+            }
+            receive();
+            if (!builds(whole, 0) || !agree(whole, &a) || a.refusal != 0 ||
+                (d < 3 && a.estimate != d))
+                return 0;
+            exact += a.estimate == d;
+            none += d > 0 && a.estimate == 0;
+            other += a.estimate != d && a.estimate != 0;
+        }
+    /* ID 0 is one as any other, in stratum 31. */
+    make(&tables, 0, 1, 0);
+    memset(tables.ours, 0, 8);
+    receive();
+    return exact > 0 && none > 0 && other > 0 && builds(whole, 0) && answers(whole, 0, 1);
+}
+
+/* Puts an ID in its places in a stratum, its own or another; or in the first of them alone. */
+static void plant(struct columns *c, uint32_t stratum, uint64_t id, int alone)
+{
+    uint32_t crc = crc_of(t, id);
+    uint16_t places[3];
+    places_of(t, crc, BUCKETS, places);
+    for (int k = 0; k < (alone ? 1 : 3); k++) {
+        uint32_t at = BUCKETS * stratum + places[k];
+        c->ids[at] ^= id;
+        c->hashes[at] ^= crc;
+        c->counts[at]++;
+    }
+}
+
+static int stratum_is_zero(const struct columns *c, uint32_t stratum)
+{
+    uint32_t from = BUCKETS * stratum;
+    return is_zero(c->ids + from, c->hashes + from, c->counts + from, BUCKETS);
+}
+
+/* Estimators no table makes, each with its answer. */
+static int tampered_agree(void)
+{
+    uint64_t id = draw();
+    make(&tables, 300, 0, 0);
+    receive();
+    if (!answers(whole, 0, 0))
+        return 0;
+    /* One ID in several strata, none of them its own, once as theirs. */
+    plant(&given.first, 31, id, 0);
+    plant(&given.first, 20, id, 0);
+    plant(&given.second, 7, id, 0);
+    if (!answers(whole, 0, 3))
+        return 0;
+    /* Something left in stratum 3, in one column alone: stuck. */
+    struct columns *c = &given.first;
+    const uint32_t at = 3 * BUCKETS + 5;
+    c->ids[at] ^= 1;
+    if (!answers(whole, 0, 48) || stratum_is_zero(&left[0].first, 3))
+        return 0;
+    c->ids[at] ^= 1;
+    c->hashes[at] ^= 1;
+    if (!answers(whole, 0, 48) || stratum_is_zero(&left[0].first, 3))
+        return 0;
+    c->hashes[at] ^= 1;
+    for (int i = 0; i < 2; i++) {
+        /* Counts as far apart as they may be. */
+        c = i == 0 ? &given.first : &given.second;
+        int64_t count = c->counts[at];
+        c->counts[at] = UINT32_MAX;
+        if (!answers(whole, 0, 48) || stratum_is_zero(&left[0].first, 3))
+            return 0;
+        c->counts[at] = count;
+    }
+    /* A lone ID is listed again at its other places: false, left zero; stratum 2 is not read. */
+    plant(&given.second, 3, draw(), 1);
+    plant(&given.second, 2, draw(), 0);
+    if (!answers(whole, 0, 48) || !stratum_is_zero(&left[0].first, 3) ||
+        stratum_is_zero(&left[0].first, 2))
+        return 0;
+    /* An estimate of more than 32 bits; then nothing above that could be listed. */
+    plant(&given.first, 31, draw(), 0);
+    plant(&given.first, 31, draw(), 0);
+    plant(&given.first, 30, draw(), 1);
+    if (!answers(whole, 0, UINT64_C(3) << 31))
+        return 0;
+    plant(&given.second, 31, draw(), 1);
+    return answers(whole, 0, 0);
+}
+
+/* Honest estimators spoilt at random, with few and with many changes, and columns of noise. */
+static int spoilt_agree(void)
+{
+    tandawire_estimation a;
+    for (int i = 0; i < 400; i++) {
+        make(&tables, 20, 10, 10);
+        receive();
+        for (int n = 0; n < 1 << i % 12; n++) {
+            struct columns *c = draw() % 2 == 0 ? &given.first : &given.second;
+            uint32_t at = (uint32_t)(draw() % PLACES);
+            switch (draw() % 8) {
+            case 0: c->ids[at] ^= draw(); break;
+            case 1: c->hashes[at] ^= (uint32_t)draw(); break;
+            case 2: c->counts[at] = (int64_t)(draw() >> 32); break;
+            default: plant(c, at / BUCKETS, draw(), draw() % 2 == 0);
+            }
+        }
+        if (!agree(whole, &a) || a.refusal != 0)
+            return 0;
+    }
+    for (uint32_t b = 0; b < PLACES; b++) {
+        given.first.ids[b] = draw();
+        given.first.hashes[b] = (uint32_t)draw();
+        given.first.counts[b] = (int64_t)(draw() >> 32);
+    }
+    return answers(whole, 0, 0);
+}
+
+/* As many peels in a stratum as buckets, which may be made; one more; and an ID found again. */
+static int rows_agree(void)
+{
+    const uint32_t stratum = 6, from = BUCKETS * stratum;
+    struct columns *c = &given.first;
+    state = SEED;
+    for (enum row_kind kind = PLAIN; kind < ROW_KINDS; kind++) {
+        memset(&given, 0, sizeof given);
+        for (uint32_t at = 0; at < PLACES; at++)
+            given.first.counts[at] = given.second.counts[at] = 100;
+        plant(c, 9, draw(), 0);
+        make_row(c->ids + from, c->hashes + from, c->counts + from, kind);
+        if (!answers(whole, 0, 128) || stratum_is_zero(&left[0].first, stratum) != (kind != PLAIN))
+            return 0;
+    }
+    return 1;
+}
+
+/* Each thing that is refused, and each pair of them where the order decides. */
+static int refusals_agree(void)
+{
+    size_t room[6];
+    make(&tables, 200, 1, 1);
+    receive();
+    for (int i = 0; i < 6; i++) {
+        memcpy(room, whole, sizeof room);
+        room[i] = PLACES - 1;
+        if (!answers(room, 2, 0) || !builds(room, i < 3 ? 2 : 0))
+            return 0;
+        /* The last COUNT is judged if it is said to be there. */
+        for (int k = 0; k < 4; k++) {
+            int64_t *last = (k < 2 ? given.first.counts : given.second.counts) + PLACES - 1;
+            int64_t count = *last;
+            *last = k % 2 == 0 ? -1 : INT64_C(1) << 32;
+            if (!answers(room, i == (k < 2 ? 2 : 5) ? 2 : 1, 0) || !answers(whole, 1, 0))
+                return 0;
+            *last = count;
+        }
+        room[i] = PLACES;
+        if (!answers(room, 0, 2) || !builds(room, 0))
+            return 0;
+    }
+    for (int i = 0; i < 5; i++) {
+        make(&tables, i == 1 ? MOST - 9 : 200, 10, 0);
+        tables.ours_length -= i == 0;
+        if (i == 2)
+            memcpy(tables.ours, tables.ours + 5 * HASH, HASH);
+        if (i == 3)
+            memcpy(tables.ours, tables.ours + HASH, 8);
+        if (i == 4)
+            tables.ours_length = 0;
+        if (!builds(whole, i < 4) || !builds(room, i < 4))
+            return 0;
+        room[0] = PLACES - 1;
+        if (!builds(room, i < 4 ? 1 : 2))
+            return 0;
+        room[0] = PLACES;
+    }
+    return 1;
+}
+
+static int check(void)
+{
+    make_tables(t);
+    return differences_agree() && tampered_agree() && spoilt_agree() && rows_agree() &&
+           refusals_agree();
+}
+
+/* ---- The jobs ---- */
+
+static const struct job jobs[] = {
+    {"build", "estimator_build", "build 4096", 0, 4096, 0, 0},
+    {"estimate_0", "estimate", "estimate 0", 0, 4096, 0, 0},
+    {"estimate_10", "estimate", "estimate 5 + 5", 0, 4091, 5, 5},
+    {"estimate_100", "estimate", "estimate 50 + 50", 0, 4046, 50, 50},
+    {"estimate_1000", "estimate", "estimate 1000 + 0", 0, 3096, 1000, 0},
+    {"estimate_500_500", "estimate", "estimate 500 + 500", 0, 3596, 500, 500},
+    {"estimate_4096_4096", "estimate", "estimate 4096 + 4096", 0, 0, 4096, 4096},
+};
+
+static int is_build(const struct job *job)
+{
+    return job == &jobs[0];
+}
+
+/* The C must answer what the library did. */
+static double time_of(const struct job *job, int side, uint32_t n)
+{
+    static tandawire_estimation answer[2];
+    struct timespec a, b;
+    (void)n;
+    left[side] = given;
+    clock_gettime(CLOCK_MONOTONIC, &a);
+    if (is_build(job))
+        answer[side].refusal = build(side, tables.ours, tables.ours_length, &left[side].first,
+                                     whole);
+    else
+        answer[side] = estimate(side, &left[side], whole);
+    clock_gettime(CLOCK_MONOTONIC, &b);
+    if (answer[side].refusal != 0 || (side == 1 && answer[0].estimate != answer[1].estimate))
+        return -1;
+    return nanoseconds(a, b);
+}
+
+/* Another pair of tables each time. Seeded anew, so that a job is the same whatever ran before.
+ * Estimators are made for an estimate alone; the job build must be counted without another. */
+static void prepare(const struct job *job, uint32_t n)
+{
+    if (n == 1)
+        state = SEED;
+    make(&tables, job->common, job->ours, job->theirs);
+    memset(&given, 0, sizeof given);
+    if (!is_build(job))
+        receive();
+}
+
+int main(int argc, char **argv)
+{
+    static const struct program program = {
+        "estimators", jobs, sizeof jobs / sizeof jobs[0], check, prepare, time_of,
+    };
+    return run_program(&program, argc, argv);
+}

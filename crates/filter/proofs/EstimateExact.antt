@@ -1,0 +1,123 @@
+-- The estimate of what differs, where it is exact, of the estimating call as its contract states it.
+--
+-- estimates-exactly: if both estimators were made by the rules from tables, and all strata are complete, and in no part of what differs in a
+-- stratum does a bucket shared by several IDs pass for a bucket holding one ID or none (demand 3's supposition), then the estimate is the
+-- number of IDs in only one of the tables.
+-- estimates-whole: the same, where no stratum has a stopping set (document 01: a knot) in place of "all strata are complete".
+-- estimates-equal: the estimate of equal tables is 0, with no supposition.
+--
+-- estimate-exact: all three, at document 01's derivation of IDs, which the exported call has. They are stated over any derivation of 64 bits
+-- and any salt. Assumes nothing.
+use mathlib.Core.Path.{_≡_, ap, _∙_}
+use mathlib.Core.Bool.{Bool, true, cond}
+use mathlib.Core.List.{List}
+use Prim.Native.Nat.{ℕ, _^_, _<_}
+use lib.Dec.{eqb}
+use lib.ListN.{length}
+use Rattle.bucket.specs.Columns.{Columns, view}
+use Rattle.filter.specs.declared.answers.Refusal.the-variants.{None}
+use Rattle.filter.specs.declared.answers.Verdict.the-variants.{Complete}
+use Rattle.filter.specs.Answers.{refusalNumber, estimate}
+use Rattle.filter.specs.Table.{firstEight, idsOf, isTable}
+use Rattle.filter.specs.Filter.{Item, filterOf}
+use Rattle.filter.specs.Stopping.{differing, Clear, StoppingSet}
+use Rattle.filter.specs.Calls.{filled}
+use Rattle.filter.specs.Estimator.{
+  estimatorRule,
+  inStratum,
+  stratumRule,
+  less,
+  strataVerdict,
+  readingAt,
+  readings,
+  estimateOf,
+  remaining,
+  estimateRefusal,
+  estimated,
+  estimateCall,
+}
+use Rattle.filter.proofs.IdLaws.{ids-distinct, first-eight-below, ids-below}
+use Rattle.filter.proofs.StratumLaws.{
+  total-cong,
+  estimate-listed,
+  strata-differing,
+  stratum-listed,
+  stratum-whole,
+  differing-self,
+  empty-clear,
+  empty-open,
+}
+
+-- the columns hold the estimator of a table
+abbrev pub MadeFrom : (ℕ → ℕ) → ℕ → List ℕ → Columns → Type 0
+MadeFrom derive salt t c = (i : ℕ) → i < 2528 → view c i ≡ filterOf (estimatorRule salt) (idsOf derive t) i
+
+-- the IDs of stratum i in only one of two tables, each with its side
+abbrev pub differingAt : (ℕ → ℕ) → ℕ → List ℕ → List ℕ → ℕ → List Item
+differingAt derive salt t s i = differing (inStratum salt i (idsOf derive t)) (inStratum salt i (idsOf derive s))
+
+-- ---- all strata are complete
+
+abbrev pub EstimatesExactly : (ℕ → ℕ) → Type 0
+EstimatesExactly derive =
+    (salt : ℕ) (t s : List ℕ) → isTable derive t ≡ true → isTable derive s ≡ true
+    → (a b : Columns) → estimateRefusal a b ≡ None → MadeFrom derive salt t a → MadeFrom derive salt s b
+    → ((i : ℕ) → i < 32 → Clear (stratumRule salt) (differingAt derive salt t s i))
+    → ((i : ℕ) → i < 32 → strataVerdict (readingAt salt i (less (view a) (view b))) ≡ Complete)
+    → estimateCall salt a b .answer .estimate ≡ length (differing (idsOf derive t) (idsOf derive s))
+
+granted-estimate : (salt : ℕ) (a b : Columns) → estimateRefusal a b ≡ None
+    → estimateCall salt a b .answer .estimate ≡ estimateOf 0 (readings salt 32 (less (view a) (view b)))
+unfolding estimateCall
+granted-estimate salt a b granted =
+    ap (λ (n : ℕ). cond (eqb n 0)
+    (estimated (estimate 0 (estimateOf 0 (readings salt 32 (less (view a) (view b))))) (filled 2528 (remaining salt 32 (less (view a) (view b))) a))
+    (estimated (estimate n 0) a) .answer .estimate) (ap refusalNumber granted)
+
+pub estimates-exactly : (derive : ℕ → ℕ) → ((h : ℕ) → h < 2 ^ 512 → derive h < 2 ^ 64) → EstimatesExactly derive
+estimates-exactly derive bound salt t s table-t table-s a b granted made-a made-b clear complete =
+    granted-estimate salt a b granted
+    ∙ estimate-listed salt (less (view a) (view b)) 32 complete
+    ∙ total-cong (λ i. length (readingAt salt i (less (view a) (view b)) .listed)) (λ i. length (differingAt derive salt t s i)) 32
+    (λ i h. stratum-listed salt i (idsOf derive t) (idsOf derive s) (ids-distinct derive t table-t) (ids-distinct derive s table-s)
+    (ids-below derive bound t) (ids-below derive bound s) (view a) (view b) h made-a made-b (clear i h) (complete i h))
+    ∙ strata-differing salt (idsOf derive t) (idsOf derive s)
+
+-- ---- no stratum has a stopping set
+
+abbrev pub EstimatesWhole : (ℕ → ℕ) → Type 0
+EstimatesWhole derive =
+    (salt : ℕ) (t s : List ℕ) → isTable derive t ≡ true → isTable derive s ≡ true
+    → (a b : Columns) → estimateRefusal a b ≡ None → MadeFrom derive salt t a → MadeFrom derive salt s b
+    → ((i : ℕ) → i < 32 → Clear (stratumRule salt) (differingAt derive salt t s i))
+    → ((i : ℕ) → i < 32 → (q : Item → Bool) → StoppingSet (stratumRule salt) (differingAt derive salt t s i) q → ⊥)
+    → estimateCall salt a b .answer .estimate ≡ length (differing (idsOf derive t) (idsOf derive s))
+
+pub estimates-whole : (derive : ℕ → ℕ) → ((h : ℕ) → h < 2 ^ 512 → derive h < 2 ^ 64) → EstimatesWhole derive
+estimates-whole derive bound salt t s table-t table-s a b granted made-a made-b clear none =
+    estimates-exactly derive bound salt t s table-t table-s a b granted made-a made-b clear
+    (λ i h. stratum-whole salt i (idsOf derive t) (idsOf derive s) (ids-distinct derive t table-t) (ids-distinct derive s table-s)
+    (ids-below derive bound t) (ids-below derive bound s) (view a) (view b) h made-a made-b (clear i h) (none i h))
+
+-- ---- equal tables
+
+abbrev pub EstimatesEqual : (ℕ → ℕ) → Type 0
+EstimatesEqual derive =
+    (salt : ℕ) (t : List ℕ) → isTable derive t ≡ true → (a b : Columns) → estimateRefusal a b ≡ None
+    → MadeFrom derive salt t a → MadeFrom derive salt t b → estimateCall salt a b .answer .estimate ≡ 0
+
+pub estimates-equal : (derive : ℕ → ℕ) → ((h : ℕ) → h < 2 ^ 512 → derive h < 2 ^ 64) → EstimatesEqual derive
+estimates-equal derive bound salt t table a b granted made-a made-b =
+    estimates-whole derive bound salt t t table table a b granted made-a made-b
+    (λ i h. empty-clear (stratumRule salt) (differingAt derive salt t t i) (differing-self (inStratum salt i (idsOf derive t))))
+    (λ i h. empty-open (stratumRule salt) (differingAt derive salt t t i) (differing-self (inStratum salt i (idsOf derive t))))
+    ∙ ap length (differing-self (idsOf derive t))
+
+-- ---- by document 01's derivation of IDs
+
+pub estimate-exact : EstimatesExactly firstEight × EstimatesWhole firstEight × EstimatesEqual firstEight
+estimate-exact = (
+  estimates-exactly firstEight first-eight-below,
+  estimates-whole firstEight first-eight-below,
+  estimates-equal firstEight first-eight-below,
+)

@@ -1,0 +1,206 @@
+-- How the readings of strata are counted: one stratum lent alone, and all of them from the highest down, with the invariant of that loop.
+-- Assumes nothing.
+use mathlib.Core.Path.{_≡_, refl, sym, ap, ap₂, _∙_, subst, fun-ext}
+use mathlib.Core.Bool.{Bool, true, false, not, cond, false≢true}
+use mathlib.Core.Logic.{_≢_}
+use mathlib.Core.List.{List}
+use Prim.Native.Nat.{ℕ, zero, suc, _+_, _-_, _*_, _/_, _%_, _^_, _≤_, _<_}
+use native.Mathlib.Omega.{arith}
+use borrow.Author.Tests.{not-true, not-false, ltb-true, ltb-false, ne-eqb}
+use lib.Dec.{ltb}
+use lib.IntN.{ℤ, natAbs}
+use lib.ListN.{length}
+use lib.Pow.{shl-exact}
+use Rattle.bucket.specs.Bucket.{Bucket, 𝟎}
+use Rattle.bucket.specs.Columns.{Columns, view}
+use Rattle.bucket.proofs.ColumnLaws.{SameLengths}
+use Rattle.filter.specs.Peeling.{Outcome, allZero, verdictBy, isComplete}
+use Rattle.filter.specs.Calls.{filled}
+use Rattle.filter.specs.Estimator.{
+  stratumRule,
+  stratum,
+  withStratum,
+  strataVerdict,
+  readingAt,
+  readings,
+  estimateOf,
+  leftBy,
+  leftAt,
+  remaining,
+}
+use Rattle.filter.specs.Repeats.{Chains}
+use Rattle.filter.specs.Steps.{Wide, Small, Peels, Counted}
+use Rattle.filter.proofs.FilledLaws.{
+  lengths-refl,
+  lengths-trans,
+  filled-is-lengths,
+  wide-same,
+  view-filled-in,
+  view-filled-out,
+  filled-cong,
+  filled-filled,
+  filled-view,
+}
+use Rattle.filter.proofs.PeelLaws.{all-zero-cong}
+use Rattle.filter.proofs.ListedLaws.{listed-count}
+use Rattle.filter.proofs.StrataLaws.{with-stratum-out, view-with-stratum, readings-length, estimate-cong}
+
+-- ---- one stratum, lent alone
+
+module _ (q : Outcome) (c₀ c : Columns) {o₀ t₀ : List ℕ} {fine : Bool} {o t : List ℕ} {a b : ℕ} (p : Peels 79 q c₀ o₀ t₀ fine c o t a b) where
+  pub part-few : a + b ≤ 79
+  part-few = omega (arith, listed-count o₀ t₀ (p .some) o t a b (p .listed-some), p .few)
+
+  -- a peeling that is not in order leaves a false stratum, which is then made zero
+  pub part-false : {c′ : Columns} → Wide 79 c₀ → not fine ≡ true → c′ ≡ filled 79 (λ i. 𝟎) c
+      → Counted q false 0 × (c′ ≡ filled 79 (leftBy (strataVerdict q) q) c₀)
+  part-false w h e = (
+    record {
+      complete-is = sym (ap (λ (f : Bool). isComplete (verdictBy f (allZero (q .rest) 79) true)) bad);
+      listed-is = λ k. absurd (false≢true k);
+      few = omega arith;
+    },
+    e ∙ ap (filled 79 (λ i. 𝟎)) (p .kept) ∙ filled-filled 79 (p .rest) (λ i. 𝟎) c₀ w
+        ∙ filled-cong 79 (λ i. 𝟎) (leftBy (strataVerdict q) q) c₀
+        (λ i k. sym (ap (λ (f : Bool). leftBy (verdictBy f (allZero (q .rest) 79) true) q i) bad)),
+  )
+    where
+      bad : q .fine ≡ false
+      bad = sym (p .fine-is) ∙ not-true fine h
+
+  -- one in order is complete where it left zeros, and otherwise stuck
+  pub part-fine : (z : Bool) → Wide 79 c₀ → not fine ≡ false → z ≡ allZero (view c) 79
+      → Counted q z (a + b) × (c ≡ filled 79 (leftBy (strataVerdict q) q) c₀)
+  part-fine z w h e = (
+    record {
+      complete-is = whole z ∙ ap₂ (λ (f t : Bool). isComplete (verdictBy f t true)) (sym good) zeros;
+      listed-is = λ _. listed-count o₀ t₀ (q .listed) o t a b (p .listed-is ok);
+      few = part-few;
+    },
+    p .rest-is ok ∙ filled-cong 79 (q .rest) (leftBy (strataVerdict q) q) c₀
+        (λ i k. sym (ap (λ (f : Bool). leftBy (verdictBy f (allZero (q .rest) 79) true) q i) good ∙ rest i (allZero (q .rest) 79))),
+  )
+    where
+      ok : fine ≡ true
+      ok = not-false fine h
+
+      good : q .fine ≡ true
+      good = sym (p .fine-is) ∙ ok
+
+      zeros : z ≡ allZero (q .rest) 79
+      zeros =
+          e ∙ ap (λ (d : Columns). allZero (view d) 79) (p .rest-is ok)
+          ∙ all-zero-cong (view (filled 79 (q .rest) c₀)) (q .rest) 79 (λ i k. view-filled-in 79 (q .rest) c₀ i w k)
+
+      whole : (x : Bool) → x ≡ isComplete (verdictBy true x true)
+      whole true = refl
+      whole false = refl
+
+      rest : (i : ℕ) (x : Bool) → leftBy (verdictBy true x true) q i ≡ q .rest i
+      rest i true = refl
+      rest i false = refl
+
+-- ---- the invariant: strata n and above were read and are counted in the total
+
+pub record Tally (salt : ℕ) (c₀ c : Columns) (heads links seen : List ℕ) (total n : ℕ) : Type 0 where
+  pub few : n ≤ 32
+  pub wide : Wide 2528 c
+  pub lengths : SameLengths c c₀
+  pub small : Small (79 * n) (2 ^ 34) c
+  pub bound : total ≤ 79 * (32 - n)
+  pub estimate : estimateOf total (readings salt n (view c)) ≡ estimateOf 0 (readings salt 32 (view c₀))
+  pub left : filled 2528 (remaining salt n (view c)) c ≡ filled 2528 (remaining salt 32 (view c₀)) c₀
+  pub chains : Chains 0 heads links seen
+
+pub tally-start : (salt : ℕ) (c : Columns) (heads links seen : List ℕ) → Wide 2528 c → Small 2528 (2 ^ 34) c → Chains 0 heads links seen
+    → Tally salt c c heads links seen 0 32
+tally-start salt c heads links seen w s h = record {
+  few = omega arith;
+  wide = w;
+  lengths = lengths-refl c;
+  small = s;
+  bound = omega arith;
+  estimate = refl;
+  left = refl;
+  chains = h;
+}
+
+module _ (salt m : ℕ) (c c′ : Columns) (h : m < 32) (w : Wide 2528 c) (e : c′ ≡ filled 2528 (leftAt salt m (view c)) c) where
+  view-left : view c′ ≡ leftAt salt m (view c)
+  view-left = view-with-stratum m (leftBy (strataVerdict (readingAt salt m (view c))) (readingAt salt m (view c))) c c′ h w e
+
+  below-left : (i : ℕ) → i < 79 * m → view c′ i ≡ view c i
+  below-left i k =
+      ap (λ (f : ℕ → Bucket). f i) view-left
+      ∙ with-stratum-out m (leftBy (strataVerdict (readingAt salt m (view c))) (readingAt salt m (view c))) (view c) i (λ x. omega (arith, k, x))
+
+  next-estimate : (total listed : ℕ) → true ≡ isComplete (strataVerdict (readingAt salt m (view c)))
+      → listed ≡ length (readingAt salt m (view c) .listed)
+      → estimateOf (total + listed) (readings salt m (view c′)) ≡ estimateOf total (readings salt (suc m) (view c))
+  unfolding readings estimateOf
+  next-estimate total listed v l =
+      let rs = readings salt m (view c) in
+      estimate-cong salt m (view c′) (view c) (total + listed) below-left
+      ∙ ap₂ (λ (b : Bool) (x : ℕ). cond b (estimateOf (total + x) rs) (total * 2 ^ (length rs + 1))) v l
+
+  next-left : true ≡ isComplete (strataVerdict (readingAt salt m (view c)))
+      → filled 2528 (remaining salt m (view c′)) c′ ≡ filled 2528 (remaining salt (suc m) (view c)) c
+  unfolding remaining
+  next-left v =
+      let left = leftAt salt m (view c) in
+      ap₂ (λ (f : ℕ → Bucket) (d : Columns). filled 2528 (remaining salt m f) d) view-left e
+      ∙ filled-filled 2528 left (remaining salt m left) c w
+      ∙ ap (λ (b : Bool). filled 2528 (cond b (remaining salt m left) left) c) v
+
+  next-small : Small (79 * suc m) (2 ^ 34) c → Small (79 * m) (2 ^ 34) c′
+  unfolding view
+  next-small s = record {
+    all = λ i k. subst (λ (z : ℤ). natAbs z < 2 ^ 34) (sym (ap (λ (b : Bucket). b .count) (below-left i k))) (s .all i (omega (arith, k)));
+  }
+
+module _ {salt : ℕ} {c₀ c : Columns} {heads links seen : List ℕ} {total : ℕ} where
+  module _ (m : ℕ) (c′ : Columns) {n listed : ℕ} {whole : Bool} (t : Tally salt c₀ c heads links seen total n) (p : n ≡ suc m)
+      (k : Counted (readingAt salt m (view c)) whole listed) (e : c′ ≡ filled 2528 (leftAt salt m (view c)) c) where
+    now-at : Tally salt c₀ c heads links seen total (suc m)
+    now-at = subst (Tally salt c₀ c heads links seen total) p t
+
+    -- stratum m is complete
+    pub tally-next : {heads′ links′ seen′ : List ℕ} → not whole ≡ false → Chains 0 heads′ links′ seen′
+        → Tally salt c₀ c′ heads′ links′ seen′ (total + listed) m
+    tally-next h chains =
+        let ok = not-false whole h in
+        let in-range : m < 32 = omega (arith, now-at .few) in
+        let same = filled-is-lengths 2528 (leftAt salt m (view c)) c c′ e in
+        let v = sym ok ∙ k .complete-is in record {
+          few = omega (arith, in-range);
+          wide = wide-same 2528 c′ c same (t .wide);
+          lengths = lengths-trans c′ c c₀ same (t .lengths);
+          small = next-small salt m c c′ in-range (t .wide) e (now-at .small);
+          bound = omega (arith, now-at .bound, in-range, k .few);
+          estimate = next-estimate salt m c c′ in-range (t .wide) e total listed v (k .listed-is ok) ∙ now-at .estimate;
+          left = next-left salt m c c′ in-range (t .wide) e v ∙ now-at .left;
+          chains = chains;
+        }
+
+    -- stratum m is not complete
+    pub tally-stop : not whole ≡ true
+        → (total * 2 ^ (m + 1) % 2 ^ 64 ≡ estimateOf 0 (readings salt 32 (view c₀))) × (c′ ≡ filled 2528 (remaining salt 32 (view c₀)) c₀)
+    unfolding readings estimateOf remaining
+    tally-stop h =
+        let f = readings salt m (view c) in
+        let v = sym (not-true whole h) ∙ k .complete-is in (
+          shl-exact 12 (m + 1) 64 (omega (arith, now-at .bound)) (omega (arith, now-at .few))
+              ∙ ap (λ (x : ℕ). total * 2 ^ (x + 1)) (sym (readings-length salt m (view c)))
+              ∙ ap (λ (b : Bool). cond b (estimateOf (total + length (readingAt salt m (view c) .listed)) f) (total * 2 ^ (length f + 1))) v
+              ∙ now-at .estimate,
+          e ∙ ap (λ (b : Bool). filled 2528 (cond b (remaining salt m (leftAt salt m (view c))) (leftAt salt m (view c))) c) v ∙ now-at .left,
+        )
+
+  -- all are complete
+  pub tally-end : {n : ℕ} → Tally salt c₀ c heads links seen total n → n ≡ 0
+      → (total ≡ estimateOf 0 (readings salt 32 (view c₀))) × (c ≡ filled 2528 (remaining salt 32 (view c₀)) c₀)
+  unfolding readings estimateOf remaining
+  tally-end t z = (
+    ap (λ (m : ℕ). estimateOf total (readings salt m (view c))) (sym z) ∙ t .estimate,
+    sym (filled-view 2528 c (t .wide)) ∙ ap (λ (m : ℕ). filled 2528 (remaining salt m (view c)) c) (sym z) ∙ t .left,
+  )

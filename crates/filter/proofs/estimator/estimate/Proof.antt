@@ -1,0 +1,110 @@
+-- `estimator::estimate` meets its contract: each early answer is the definition's at the test that failed; behind them the first columns hold the
+-- difference, whose strata are read as the definition's are. Assumes nothing.
+use mathlib.Core.Path.{_≡_}
+use mathlib.Core.Bool.{true, _&&_}
+use native.Mathlib.Omega.{arith}
+use denote.Ref.{now}
+use Rattle.bucket.specs.Columns.{Columns, columns}
+use Rattle.bucket.proofs.TestLaws.{test-refused, test-granted}
+use Rattle.filter.specs.Calls.{areCounts, hasRoom}
+use Rattle.filter.specs.Estimator.{estimateRefusal, estimateCall}
+use Rattle.filter.proofs.EstimateLaws.{estimate-ready, less-wide, less-small, estimate-ends}
+use borrow.Author.Needs.{needs}
+use Rattle.filter.proofs.estimator.estimate.Statement.{statement}
+use Rattle.filter.proofs.estimator.estimate.Tie as tie
+
+-- behind the two tests: the columns as they were lent, and what the tests say of them
+abbrev first : tie.Else2 → Columns
+first c = let a = c .before .before .before .before .before .before .before .before .before .before .before .before .args in columns (now (a .ids)) (now (a .hashes)) (now (a .counts))
+
+abbrev second : tie.Else2 → Columns
+second c = let a = c .before .before .before .before .before .before .before .before .before .before .before .before .args in columns (now (a .ids2)) (now (a .hashes2)) (now (a .counts2))
+
+counted : (c : tie.Else2) → areCounts 2528 (first c .counts) && areCounts 2528 (second c .counts) ≡ true
+counted c = test-granted (c .before .before .before .before .before .before .are-counts .ensures) (c .before .before .before .before .before .if1 .left)
+
+roomy : (c : tie.Else2) → hasRoom 2528 (first c) && hasRoom 2528 (second c) ≡ true
+roomy c = test-granted (c .before .have-room .ensures) (c .if2 .left)
+
+are-counts-requires : tie.Need-are-counts-requires
+are-counts-requires c κs = search needs
+
+same-length : tie.Need-same-length
+same-length c = search needs
+
+returns : tie.Need-returns
+unfolding estimateCall estimateRefusal
+returns c = rw (test-refused (c .before .are-counts .ensures) (c .if1 .taken))
+
+have-room-requires : tie.Need-have-room-requires
+have-room-requires c κs = search needs
+
+same-length-2 : tie.Need-same-length-2
+same-length-2 c = search needs
+
+same-length-3 : tie.Need-same-length-3
+same-length-3 c = search needs
+
+same-length-4 : tie.Need-same-length-4
+same-length-4 c = search needs
+
+returns-2 : tie.Need-returns-2
+unfolding estimateCall estimateRefusal
+returns-2 c =
+    rw (
+      test-granted (c .before .before .before .before .before .before .are-counts .ensures) (c .before .before .before .before .before .if1 .left),
+      test-refused (c .before .have-room .ensures) (c .if2 .taken),
+    )
+
+subtract-requires : tie.Need-subtract-requires
+subtract-requires c κs = let t = c .before .before .before in estimate-ready (first t) (second t) (counted t) (roomy t)
+
+tables-requires : tie.Need-tables-requires
+tables-requires c κs = search needs
+
+read-all-requires : tie.Need-read-all-requires
+read-all-requires c κs =
+    let d = c .before .before .before .before .before .before .before .before .before .before in
+    let t = d .before .before .before .before in
+    let e = d .subtract .ensures in (
+      c .before .before .before .before .tables .ensures,
+      omega arith,
+      less-wide (first t) (second t) (counted t) (roomy t) e,
+      less-small (first t) (second t) (counted t) (roomy t) e,
+    )
+
+same-length-5 : tie.Need-same-length-5
+same-length-5 c = search needs
+
+same-length-6 : tie.Need-same-length-6
+same-length-6 c = search needs
+
+same-length-7 : tie.Need-same-length-7
+same-length-7 c = search needs
+
+returns-3 : tie.Need-returns-3
+returns-3 c =
+    let r = c .before .before .before .before .before .read-all .ensures in
+    let d = c .before .before .before .before .before .before .before .before .before .before .before .before .before .before .before .before in
+    let t = d .before .before .before .before in
+    estimate-ends (first t) (second t) (counted t) (roomy t) (d .subtract .ensures) 0 (r .0) (r .1)
+
+pub estimate-spec : {M : Type 1} → statement M
+estimate-spec =
+    tie.close
+    (tie.spec
+    are-counts-requires
+    same-length
+    returns
+    have-room-requires
+    same-length-2
+    same-length-3
+    same-length-4
+    returns-2
+    subtract-requires
+    tables-requires
+    read-all-requires
+    same-length-5
+    same-length-6
+    same-length-7
+    returns-3)

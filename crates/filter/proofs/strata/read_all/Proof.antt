@@ -1,0 +1,115 @@
+-- `strata::read_all` meets its contract. The loop's invariant: what the strata from n upwards list is counted in the total, and counting and
+-- reading on from the columns as they are now gives the definition's estimate and what the definition leaves. The measure is n. Assumes nothing.
+use Prim.Native.Nat.{_-_}
+use native.Mathlib.Omega.{arith}
+use mathlib.Core.Path.{refl}
+use borrow.Author.Needs.{needs}
+use denote.Ref.{now}
+use Rattle.bucket.specs.Columns.{columns}
+use Rattle.filter.proofs.RepeatLaws.{chains-start}
+use Rattle.filter.proofs.TallyLaws.{Tally, tally-start, tally-next, tally-stop, tally-end}
+use Rattle.filter.proofs.strata.read_all.Statement.{statement}
+use Rattle.filter.proofs.strata.read_all.Tie as tie
+
+abbrev Inv-loop : tie.InvT-loop
+Inv-loop tab ids₀ hashes₀ counts₀ salt heads₀ links₀ seen₀ total₀ n₀ ids hashes counts heads links seen total n =
+    Tally salt (columns ids₀ hashes₀ counts₀) (columns ids hashes counts) heads links seen total n
+
+abbrev μ-loop : tie.MeasureT-loop
+μ-loop tab ids₀ hashes₀ counts₀ salt heads₀ links₀ seen₀ total₀ n₀ ids hashes counts heads links seen total n = n
+
+loop-holds : tie.Need-loop-holds Inv-loop μ-loop
+loop-holds c =
+    let s = c .before .before in
+    tally-start (s .args .salt) (columns (now (s .args .ids)) (now (s .args .hashes)) (now (s .args .counts))) _ _ _ (s .pre .2) (s .pre .3)
+    (chains-start 4096 refl)
+
+sub-n : tie.Need-sub-n Inv-loop μ-loop
+sub-n c = search needs
+
+read-one-requires : tie.Need-read-one-requires Inv-loop μ-loop
+read-one-requires c κs =
+    let s = c .before .before .before .before .before .before .before .before .before .before in
+    let at = c .before .before .before .before .before .before .before .loop in
+    let more = c .before .before .before .before .before .before .loop-test .taken in (
+      s .pre .0,
+      s .pre .1,
+      omega (arith, at .inv .few),
+      at .inv .wide,
+      record { all = λ i h. at .inv .small .all i (omega (arith, h, more)) },
+      at .inv .chains,
+    )
+
+add-result : tie.Need-add-result Inv-loop μ-loop
+add-result c = search needs
+
+shl-result : tie.Need-shl-result Inv-loop μ-loop
+shl-result c = omega (arith, c .before .before .before .before .before .before .before .before .before .before .before .before .before .before .before .loop .inv .few)
+
+same-length : tie.Need-same-length Inv-loop μ-loop
+same-length c = search needs
+
+same-length-2 : tie.Need-same-length-2 Inv-loop μ-loop
+same-length-2 c = search needs
+
+same-length-3 : tie.Need-same-length-3 Inv-loop μ-loop
+same-length-3 c = search needs
+
+returns : tie.Need-returns Inv-loop μ-loop
+returns c =
+    let at = c .before .before .before .before .before .before .before .before .before .before .before .before .before .before .before .loop in
+    let more = c .before .before .before .before .before .before .before .before .before .before .before .before .before .before .loop-test .taken in
+    let read = c .before .before .before .before .before .before .before .read-one in
+    let left = columns (read .last .1 .0) (read .last .1 .1 .0) (read .last .1 .1 .1 .0) in
+    tally-stop (at .n - 1) left (at .inv) (omega (arith, more)) (read .ensures .0) (read .ensures .1) (c .if1 .taken)
+
+add-total : tie.Need-add-total Inv-loop μ-loop
+add-total c =
+    let at = c .before .before .before .before .before .before .before .before .before .before .before .before .before .before .before .loop in
+    omega (arith, at .inv .bound, c .before .before .before .before .before .before .before .read-one .ensures .0 .few)
+
+loop-less : tie.Need-loop-less Inv-loop μ-loop
+loop-less c = search needs
+
+loop-again : tie.Need-loop-again Inv-loop μ-loop
+loop-again c =
+    let at = c .before .before .before .before .before .before .before .before .before .before .before .before .before .before .before .loop in
+    let more = c .before .before .before .before .before .before .before .before .before .before .before .before .before .before .loop-test .taken in
+    let read = c .before .before .before .before .before .before .before .read-one in
+    let left = columns (read .last .1 .0) (read .last .1 .1 .0) (read .last .1 .1 .1 .0) in
+    tally-next (at .n - 1) left (at .inv) (omega (arith, more)) (read .ensures .0) (read .ensures .1) (c .if1 .left) (read .ensures .2)
+
+same-length-4 : tie.Need-same-length-4 Inv-loop μ-loop
+same-length-4 c = search needs
+
+same-length-5 : tie.Need-same-length-5 Inv-loop μ-loop
+same-length-5 c = search needs
+
+same-length-6 : tie.Need-same-length-6 Inv-loop μ-loop
+same-length-6 c = search needs
+
+returns-2 : tie.Need-returns-2 Inv-loop μ-loop
+returns-2 c = tally-end (c .before .loop .inv) (omega arith)
+
+pub read-all-spec : {M : Type 1} → statement M
+read-all-spec =
+    tie.close
+    (tie.spec
+    Inv-loop
+    μ-loop
+    loop-holds
+    sub-n
+    read-one-requires
+    add-result
+    shl-result
+    same-length
+    same-length-2
+    same-length-3
+    returns
+    add-total
+    loop-less
+    loop-again
+    same-length-4
+    same-length-5
+    same-length-6
+    returns-2)
