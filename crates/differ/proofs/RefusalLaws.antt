@@ -22,47 +22,11 @@ use Rattle.filter.specs.Table.{firstEight, idsOf, isTable}
 use Rattle.filter.specs.Peeling.{Outcome}
 use Rattle.filter.specs.Calls.{Read, inRange, isCount, allCounts, areCounts, hasRoom, filled, buildRefusal, buildCall, readWith, readRefusal, outcomeOf, verdictOf}
 use Rattle.filter.specs.Steps.{Wide}
-use Rattle.filter.proofs.FilledLaws.{wide-of, wide-filled, view-filled-in}
+use Rattle.filter.proofs.FilledLaws.{wide-of, wide-filled}
 use Rattle.filter.proofs.GrantedLaws.{granted-read}
+use Rattle.filter.proofs.MadeLaws.{made-counts}
 use Rattle.filter.proofs.TableLaws.{ids-length, table-count}
 use Rattle.differ.specs.Report.{blank, received, result}
-
--- a filter's COUNT is a number of items, so no more than there are
-module _ (R : Rule) where
-  filter-count : (t : List ℕ) (i : ℕ) → filterOf R t i .count ≡ pos (load R (map ours t) i)
-  unfolding filterOf sumAt load put cell 𝟎 _⊕_
-  filter-count [] i = refl
-  filter-count (a ∷ t) i = go (touches R (ours a) i) (filter-count t i)
-    where
-      go : (b : Bool) → sumAt R (map ours t) i .count ≡ pos (load R (map ours t) i)
-          → cond b (cell R (ours a)) 𝟎 .count +ℤ sumAt R (map ours t) i .count ≡ pos (cond b 1 0 + load R (map ours t) i)
-      go true e = ap (λ (z : ℤ). pos 1 +ℤ z) e
-      go false e = ap (λ (z : ℤ). pos 0 +ℤ z) e
-
-  load-le : (l : List Item) (i : ℕ) → load R l i ≤ length l
-  unfolding load
-  load-le [] i = omega arith
-  load-le (x ∷ l) i = go (touches R x i) (load-le l i)
-    where
-      go : (b : Bool) → load R l i ≤ length l → cond b 1 0 + load R l i ≤ suc (length l)
-      go true h = omega arith
-      go false h = omega arith
-
-  count-holds : (t : List ℕ) (i : ℕ) → length t < 2 ^ 32 → isCount (filterOf R t i .count) ≡ true
-  count-holds t i h =
-      ap isCount (filter-count t i) ∙ lt-ltb (load R (map ours t) i) (2 ^ 32) (omega (arith, load-le (map ours t) i, length-map t ours))
-
-counts-hold : (cs : List ℤ) → ((i : ℕ) → i < length cs → isCount (getD cs i (pos 0)) ≡ true) → allCounts cs ≡ true
-unfolding allCounts
-counts-hold [] h = refl
-counts-hold (z ∷ cs) h = and-holds (h 0 (omega arith)) (counts-hold cs (λ i k. h (suc i) (omega arith)))
-
-filled-counts : (size : ℕ) (f : ℕ → Bucket) (c : Columns) → Wide size c → ((i : ℕ) → isCount (f i .count) ≡ true) → areCounts size (filled size f c .counts) ≡ true
-unfolding view
-filled-counts size f c w h =
-    counts-hold (take size (filled size f c .counts)) (λ i k.
-    let l : i < size = omega (arith, k, length-take size (filled size f c .counts)) in
-    ap isCount (getD-take size (filled size f c .counts) i (pos 0) l ∙ ap (λ (b : Bucket). b .count) (view-filled-in size f c i w l)) ∙ h i)
 
 refusal-with : (v : Verdict) (size : ℕ) (r : Outcome) (c : Columns) (o th : List ℕ) → (readWith v size r c o th .answer .refusal ≡ 0) ⊎ (readWith v size r c o th .answer .refusal ≡ 6)
 unfolding readWith
@@ -99,8 +63,8 @@ module _ (size : ℕ) (a b : List ℕ) (tables : isTable firstEight a && isTable
   received-counts =
       let table = and-eq-true-iff (isTable firstEight a) (isTable firstEight b) .0 tables .1 in
       rw received-filled
-      (filled-counts size made blank (wide-of size blank has-room) (λ i.
-      count-holds (filterRule size 0) (idsOf firstEight b) i (omega (arith, ids-length firstEight b, table-count b table))))
+      (made-counts (filterRule size 0) (idsOf firstEight b) (omega (arith, ids-length firstEight b, table-count b table)) size blank
+      (wide-of size blank has-room))
 
   granted : readRefusal firstEight size 0 a (received size b) (replicate 512 0) (replicate 512 0) ≡ None
   unfolding readRefusal hasRoom

@@ -20,7 +20,7 @@ use Rattle.filter.specs.Filter.{filterRule}
 use Rattle.filter.specs.Peeling.{Outcome}
 use Rattle.filter.specs.Table.{firstEight, isTable}
 use Rattle.filter.specs.Calls.{Read, built, buildCall, answered, unread, readWith, readRefusal, outcomeOf, verdictOf, readCall}
-use Rattle.filter.proofs.ListedLaws.{sides-length}
+use Rattle.filter.proofs.SideLaws.{sides-length}
 use Rattle.filter.proofs.PeelLaws.{listed-few}
 use Rattle.differ.specs.Text.{oursLabel, theirsLabel, listing, refusal, Writes}
 use Rattle.differ.specs.Report.{sizeOf, countA, countB, isInput, tableA, tableB, blank, received, result, shown, compared, printed, Reports}

@@ -38,7 +38,7 @@ unfoldable pub allBelow : (ℕ → Bool) → ℕ → Bool
 allBelow g zero = true
 allBelow g (suc n) = g n && allBelow g n
 
-all-below : (g : ℕ → Bool) (n i : ℕ) → allBelow g n ≡ true → i < n → g i ≡ true
+pub all-below : (g : ℕ → Bool) (n i : ℕ) → allBelow g n ≡ true → i < n → g i ≡ true
 unfolding allBelow
 all-below g zero i e h = absurd (not-suc-le-zero h)
 all-below g (suc n) i e h = go (eq-or-lt-of-le (le-of-suc-le-suc h)) (all-below g n i (both .1))

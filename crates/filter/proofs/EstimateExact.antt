@@ -6,9 +6,11 @@
 -- estimates-whole: the same, where no stratum has a stopping set (document 01: a knot) in place of "all strata are complete".
 -- estimates-equal: the estimate of equal tables is 0, with no supposition.
 --
--- estimate-exact: all three, at document 01's derivation of IDs, which the exported call has. They are stated over any derivation of 64 bits
+-- estimates-built: estimates-whole of the two calls: estimators that estimatorCall built are never refused, and the answer is that number.
+--
+-- estimate-exact: all four, at document 01's derivation of IDs, which the exported call has. They are stated over any derivation of 64 bits
 -- and any salt. Assumes nothing.
-use mathlib.Core.Path.{_≡_, ap, _∙_}
+use mathlib.Core.Path.{_≡_, sym, ap, _∙_}
 use mathlib.Core.Bool.{Bool, true, cond}
 use mathlib.Core.List.{List}
 use Prim.Native.Nat.{ℕ, _^_, _<_}
@@ -21,7 +23,7 @@ use Rattle.filter.specs.Answers.{refusalNumber, estimate}
 use Rattle.filter.specs.Table.{firstEight, idsOf, isTable}
 use Rattle.filter.specs.Filter.{Item, filterOf}
 use Rattle.filter.specs.Stopping.{differing, Clear, StoppingSet}
-use Rattle.filter.specs.Calls.{filled}
+use Rattle.filter.specs.Calls.{areCounts, hasRoom, filled}
 use Rattle.filter.specs.Estimator.{
   estimatorRule,
   inStratum,
@@ -32,18 +34,23 @@ use Rattle.filter.specs.Estimator.{
   readings,
   estimateOf,
   remaining,
+  estimatorRefusal,
+  estimatorCall,
   estimateRefusal,
+  Estimated,
   estimated,
   estimateCall,
 }
-use Rattle.filter.proofs.IdLaws.{ids-distinct, first-eight-below, ids-below}
+use Rattle.filter.proofs.FilledLaws.{wide-of, view-filled-in}
+use Rattle.filter.proofs.IdLaws.{ids-distinct, ids-few, first-eight-below, ids-below}
+use Rattle.filter.proofs.MadeLaws.{made-counts, made-room}
+use Rattle.filter.proofs.SideLaws.{differing-self}
 use Rattle.filter.proofs.StratumLaws.{
   total-cong,
   estimate-listed,
   strata-differing,
   stratum-listed,
   stratum-whole,
-  differing-self,
   empty-clear,
   empty-open,
 }
@@ -66,13 +73,20 @@ EstimatesExactly derive =
     → ((i : ℕ) → i < 32 → strataVerdict (readingAt salt i (less (view a) (view b))) ≡ Complete)
     → estimateCall salt a b .answer .estimate ≡ length (differing (idsOf derive t) (idsOf derive s))
 
-granted-estimate : (salt : ℕ) (a b : Columns) → estimateRefusal a b ≡ None
-    → estimateCall salt a b .answer .estimate ≡ estimateOf 0 (readings salt 32 (less (view a) (view b)))
-unfolding estimateCall
-granted-estimate salt a b granted =
-    ap (λ (n : ℕ). cond (eqb n 0)
-    (estimated (estimate 0 (estimateOf 0 (readings salt 32 (less (view a) (view b))))) (filled 2528 (remaining salt 32 (less (view a) (view b))) a))
-    (estimated (estimate n 0) a) .answer .estimate) (ap refusalNumber granted)
+module _ (salt : ℕ) (a b : Columns) (granted : estimateRefusal a b ≡ None) where
+  granted-call : estimateCall salt a b
+      ≡ estimated (estimate 0 (estimateOf 0 (readings salt 32 (less (view a) (view b))))) (filled 2528 (remaining salt 32 (less (view a) (view b))) a)
+  unfolding estimateCall
+  granted-call =
+      ap (λ (n : ℕ). cond (eqb n 0)
+      (estimated (estimate 0 (estimateOf 0 (readings salt 32 (less (view a) (view b))))) (filled 2528 (remaining salt 32 (less (view a) (view b))) a))
+      (estimated (estimate n 0) a)) (ap refusalNumber granted)
+
+  granted-estimate : estimateCall salt a b .answer .estimate ≡ estimateOf 0 (readings salt 32 (less (view a) (view b)))
+  granted-estimate = ap (λ (e : Estimated). e .answer .estimate) granted-call
+
+  granted-answer : estimateCall salt a b .answer ≡ estimate 0 (estimateCall salt a b .answer .estimate)
+  granted-answer = ap (λ (e : Estimated). e .answer) granted-call ∙ ap (estimate 0) (sym granted-estimate)
 
 pub estimates-exactly : (derive : ℕ → ℕ) → ((h : ℕ) → h < 2 ^ 512 → derive h < 2 ^ 64) → EstimatesExactly derive
 estimates-exactly derive bound salt t s table-t table-s a b granted made-a made-b clear complete =
@@ -113,11 +127,61 @@ estimates-equal derive bound salt t table a b granted made-a made-b =
     (λ i h. empty-open (stratumRule salt) (differingAt derive salt t t i) (differing-self (inStratum salt i (idsOf derive t))))
     ∙ ap length (differing-self (idsOf derive t))
 
+-- ---- estimators that the building call made
+
+module _ (derive : ℕ → ℕ) (salt : ℕ) (t : List ℕ) (table : isTable derive t ≡ true) (c : Columns) (room : hasRoom 2528 c ≡ true) where
+  built-filled : estimatorCall derive salt t c .columns ≡ filled 2528 (filterOf (estimatorRule salt) (idsOf derive t)) c
+  unfolding estimatorCall estimatorRefusal
+  built-filled = rw (table, room)
+
+  built-from : MadeFrom derive salt t (estimatorCall derive salt t c .columns)
+  built-from i h =
+      ap (λ (d : Columns). view d i) built-filled
+      ∙ view-filled-in 2528 (filterOf (estimatorRule salt) (idsOf derive t)) c i (wide-of 2528 c room) h
+
+  built-counts : areCounts 2528 (estimatorCall derive salt t c .columns .counts) ≡ true
+  built-counts = rw built-filled (made-counts (estimatorRule salt) (idsOf derive t) (ids-few derive t table) 2528 c (wide-of 2528 c room))
+
+  built-room : hasRoom 2528 (estimatorCall derive salt t c .columns) ≡ true
+  built-room = rw built-filled (made-room (estimatorRule salt) (idsOf derive t) (ids-few derive t table) 2528 c (wide-of 2528 c room))
+
+abbrev pub EstimatesBuilt : (ℕ → ℕ) → Type 0
+EstimatesBuilt derive =
+    (salt : ℕ) (t s : List ℕ) → isTable derive t ≡ true → isTable derive s ≡ true
+    → (a b : Columns) → hasRoom 2528 a ≡ true → hasRoom 2528 b ≡ true
+    → ((i : ℕ) → i < 32 → Clear (stratumRule salt) (differingAt derive salt t s i))
+    → ((i : ℕ) → i < 32 → (q : Item → Bool) → StoppingSet (stratumRule salt) (differingAt derive salt t s i) q → ⊥)
+    → estimateCall salt (estimatorCall derive salt t a .columns) (estimatorCall derive salt s b .columns) .answer
+    ≡ estimate 0 (length (differing (idsOf derive t) (idsOf derive s)))
+
+pub estimates-built : (derive : ℕ → ℕ) → ((h : ℕ) → h < 2 ^ 512 → derive h < 2 ^ 64) → EstimatesBuilt derive
+estimates-built derive bound salt t s table-t table-s a b room-a room-b clear none =
+    granted-answer salt a′ b′ granted
+    ∙ ap (estimate 0)
+    (estimates-whole derive bound salt t s table-t table-s a′ b′ granted (built-from derive salt t table-t a room-a)
+    (built-from derive salt s table-s b room-b) clear none)
+  where
+    a′ : Columns
+    a′ = estimatorCall derive salt t a .columns
+
+    b′ : Columns
+    b′ = estimatorCall derive salt s b .columns
+
+    granted : estimateRefusal a′ b′ ≡ None
+    granted =
+        unfold estimateRefusal in rw (
+          built-counts derive salt t table-t a room-a,
+          built-counts derive salt s table-s b room-b,
+          built-room derive salt t table-t a room-a,
+          built-room derive salt s table-s b room-b,
+        )
+
 -- ---- by document 01's derivation of IDs
 
-pub estimate-exact : EstimatesExactly firstEight × EstimatesWhole firstEight × EstimatesEqual firstEight
+pub estimate-exact : EstimatesExactly firstEight × EstimatesWhole firstEight × EstimatesEqual firstEight × EstimatesBuilt firstEight
 estimate-exact = (
   estimates-exactly firstEight first-eight-below,
   estimates-whole firstEight first-eight-below,
   estimates-equal firstEight first-eight-below,
+  estimates-built firstEight first-eight-below,
 )

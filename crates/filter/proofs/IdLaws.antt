@@ -8,6 +8,7 @@ use mathlib.Core.List.List·Memᴰ.{List·Memᴰ·head as head, List·Memᴰ·ta
 use Prim.Native.Nat.{ℕ, zero, suc, _*_, _/_, _%_, _^_, _≤_, _<_}
 use native.Mathlib.Nat.{div-lt-iff-lt-mul}
 use native.Mathlib.Omega.{arith}
+use borrow.Author.Tests.{leb-true}
 use lib.Dec.{eqb, leb}
 use lib.ListN.{length, getD}
 use lib.Pow.{pow-pos}
@@ -23,7 +24,7 @@ use Rattle.filter.specs.Filter.{Item, idOf, rule}
 use Rattle.filter.specs.Stopping.{differing, Clear}
 use Rattle.filter.specs.Table.{hashAt, hashesOf, firstEight, idsOf, isTable}
 use Rattle.filter.proofs.OrderLaws.{distinct-true}
-use Rattle.filter.proofs.TableLaws.{part-short}
+use Rattle.filter.proofs.TableLaws.{part-short, ids-length}
 use Rattle.filter.proofs.SideLaws.{differing-from}
 use Rattle.filter.proofs.LeftLaws.{Fair}
 use Rattle.filter.proofs.ExactLaws.{Placed}
@@ -37,6 +38,13 @@ ids-distinct derive t e =
     let few = and-eq-true-iff (leb (length t / 64) 4096) _ .0 (whole .1) in
     let order = and-eq-true-iff (ascending (hashesOf t)) _ .0 (few .1) in
     distinct-true (idsOf derive t) (order .1)
+
+pub ids-few : (derive : ℕ → ℕ) (t : List ℕ) → isTable derive t ≡ true → length (idsOf derive t) ≤ 4096
+unfolding isTable
+ids-few derive t e =
+    let whole = and-eq-true-iff (eqb (length t % 64) 0) _ .0 e in
+    let few = and-eq-true-iff (leb (length t / 64) 4096) _ .0 (whole .1) in
+    omega (arith, ids-length derive t, leb-true (length t / 64) 4096 (few .0))
 
 hash-below : (t : List ℕ) (i : ℕ) → hashAt t i < 2 ^ 512
 unfolding hashAt

@@ -29,6 +29,7 @@ pub mod GrantedLaws
 pub mod Demand3
 pub mod ClearLaws
 pub mod Examples
+pub mod MadeLaws
 pub mod PartLaws
 pub mod JudgeLaws
 pub mod CallLaws
@@ -39,3 +40,4 @@ pub mod EstimateLaws
 pub mod TallyLaws
 pub mod StratumLaws
 pub mod EstimateExact
+pub mod EstimateExample

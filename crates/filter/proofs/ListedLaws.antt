@@ -17,14 +17,9 @@ use Rattle.bucket.proofs.OverLaws.{over-nil, over-length, over-set}
 use Rattle.filter.specs.Filter.{Item, ours, theirs, oursOf, theirsOf}
 use Rattle.filter.specs.Peeling.{sided}
 use Rattle.filter.specs.Steps.{Listed}
+use Rattle.filter.proofs.SideLaws.{sides-length}
 
 -- ---- how many
-
-pub sides-length : (acc : List Item) → length (oursOf acc) + length (theirsOf acc) ≡ length acc
-unfolding oursOf theirsOf
-sides-length [] = refl
-sides-length (ours a ∷ l) = omega (arith, sides-length l)
-sides-length (theirs a ∷ l) = omega (arith, sides-length l)
 
 listed-behind : (l₀ l : List ℕ) → length l ≤ length l₀ → length (over 0 (reverse l) l₀) ≡ length l₀
 listed-behind l₀ l h = over-length 0 l₀ (reverse l) (omega (arith, length-reverse l))

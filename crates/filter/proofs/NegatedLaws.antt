@@ -5,20 +5,19 @@ use mathlib.Core.List.{List}
 use Prim.Native.Nat.{ℕ, zero, suc, _+_, _^_, _≤_, _<_, zero-le}
 use native.Mathlib.Numerals.{add-one}
 use native.Mathlib.Omega.{arith}
-use borrow.Author.Needs.{sfits-of}
 use borrow.Author.Tests.{eqb-true, eqb-false}
 use lib.Dec.{eqb}
-use lib.IntN.{ℤ, pos, negsuc, negℤ, natAbs, _-ℤ_, +ℤ-idl}
+use lib.IntN.{ℤ, pos, negsuc, negℤ, natAbs, _-ℤ_}
 use lib.ListN.{length, getD, set, length-set}
 use lib.Seq.{set-getD, getD-set-same, getD-set-other}
-use lib.Signed.{mag}
 use mir.Syntax.{w64}
 use mir.Val.{SFits, toZ, ofZ}
-use mir.ValLaws.{toZ-ofZ}
 use Rattle.bucket.specs.Bucket.{neg}
 use Rattle.bucket.specs.Columns.{Columns, columns, view, place}
+use Rattle.bucket.proofs.SmallLaws.{small-minus, small-minus-fits}
 use Rattle.filter.specs.Calls.{filled}
 use Rattle.filter.specs.Steps.{Small, negated}
+use Rattle.filter.proofs.SpreadLaws.{abs-small}
 
 -- one sign
 
@@ -26,24 +25,6 @@ pub abs-neg : (z : ℤ) → natAbs (negℤ z) ≡ natAbs z
 abs-neg (pos zero) = refl
 abs-neg (pos (suc n)) = refl
 abs-neg (negsuc n) = refl
-
-mag-abs : (z : ℤ) → mag z ≤ natAbs z
-mag-abs (pos n) = omega arith
-mag-abs (negsuc n) = omega arith
-
-module _ (z : ℤ) (h : natAbs z < 2 ^ 62) where
-  fits : SFits w64 z
-  fits = sfits-of (omega (arith, mag-abs z))
-
-  turned-fits : SFits w64 (negℤ z)
-  turned-fits = sfits-of (omega (arith, mag-abs (negℤ z), abs-neg z))
-
-  -- what the code's difference must fit, and what it gives
-  pub minus-fits : SFits w64 (pos 0 -ℤ toZ w64 (ofZ w64 z))
-  minus-fits = rw (toZ-ofZ w64 z fits, +ℤ-idl (negℤ z)) turned-fits
-
-  pub minus-is : toZ w64 (ofZ w64 (pos 0 -ℤ toZ w64 (ofZ w64 z))) ≡ negℤ z
-  minus-is = rw (toZ-ofZ w64 z fits, +ℤ-idl (negℤ z), toZ-ofZ w64 (negℤ z) turned-fits)
 
 -- many signs
 
@@ -90,19 +71,19 @@ module _ (n : ℕ) (cs₀ cs : List ℤ) (i : ℕ) (k : Turned n cs₀ cs i) whe
   pub turned-end : n ≤ i → cs ≡ negated n cs₀
   turned-end h = k .turned ∙ ap (λ (m : ℕ). negated m cs₀) (omega (arith, h, k .within))
 
-  module _ (h : i < n) (small : natAbs (getD cs₀ i (pos 0)) < 2 ^ 62) where
+  module _ (h : i < n) (small : natAbs (getD cs₀ i (pos 0)) < 2 ^ 61) where
     old : getD cs i (pos 0) ≡ getD cs₀ i (pos 0)
     old = ap (λ (l : List ℤ). getD l i (pos 0)) (k .turned) ∙ negated-out i cs₀ i (omega arith)
 
     pub turned-fits-next : SFits w64 (pos 0 -ℤ toZ w64 (ofZ w64 (getD cs i (pos 0))))
-    turned-fits-next = rw old (minus-fits (getD cs₀ i (pos 0)) small)
+    turned-fits-next = rw old (small-minus-fits (getD cs₀ i (pos 0)) (abs-small (getD cs₀ i (pos 0)) small))
 
     pub turned-next : Turned n cs₀ (set cs i (toZ w64 (ofZ w64 (pos 0 -ℤ toZ w64 (ofZ w64 (getD cs i (pos 0))))))) (i + 1)
     unfolding negated
     turned-next = record {
       within = omega arith;
       turned = ap₂ (λ (l : List ℤ) (z : ℤ). set l i z) (k .turned)
-          (ap (λ (z : ℤ). toZ w64 (ofZ w64 (pos 0 -ℤ toZ w64 (ofZ w64 z)))) old ∙ minus-is (getD cs₀ i (pos 0)) small)
+          (ap (λ (z : ℤ). toZ w64 (ofZ w64 (pos 0 -ℤ toZ w64 (ofZ w64 z)))) old ∙ small-minus (getD cs₀ i (pos 0)) (abs-small (getD cs₀ i (pos 0)) small))
           ∙ ap (λ (m : ℕ). negated m cs₀) (sym (add-one i));
     }
 

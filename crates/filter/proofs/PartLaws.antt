@@ -18,6 +18,7 @@ use Rattle.filter.specs.Calls.{inRange, areCounts, filled}
 use Rattle.filter.specs.Steps.{Wide, Small, Sound}
 use Rattle.filter.proofs.FilledLaws.{view-filled-in, filled-filled, filled-cong}
 use Rattle.filter.proofs.FormLaws.{counts-small}
+use Rattle.filter.proofs.MadeLaws.{filter-count}
 use Rattle.filter.proofs.NegatedLaws.{abs-neg}
 use Rattle.filter.proofs.SpreadLaws.{abs-sum}
 
@@ -37,20 +38,6 @@ small-filled n m f c w h = record { all = λ i l. subst (λ (z : ℤ). natAbs z 
 
 pub small-cleared : (n : ℕ) (c : Columns) → Wide n c → Small n (2 ^ 33) (filled n (λ i. 𝟎) c)
 small-cleared n c w = small-filled n (2 ^ 33) (λ i. 𝟎) c w (λ i l. unfold 𝟎 in omega arith)
-
--- an element counts at most once in a bucket
-put-count : (R : Rule) (a i : ℕ) → natAbs (put R (ours a) i .count) ≤ 1
-unfolding put cell 𝟎
-put-count R a i = go (touches R (ours a) i)
-  where
-    go : (t : Bool) → natAbs (cond t (cell R (ours a)) 𝟎 .count) ≤ 1
-    go true = omega arith
-    go false = omega arith
-
-filter-count : (R : Rule) (t : List ℕ) (i : ℕ) → natAbs (filterOf R t i .count) ≤ length t
-unfolding filterOf sumAt _⊕_ 𝟎
-filter-count R [] i = omega arith
-filter-count R (a ∷ t) i = omega (arith, abs-sum (put R (ours a) i .count) (sumAt R (map ours t) i .count), put-count R a i, filter-count R t i)
 
 pub small-difference : (R : Rule) (t : List ℕ) (n : ℕ) (c : Columns) → Wide n c → areCounts n (c .counts) ≡ true → length t ≤ 4096
     → Small n (2 ^ 34) (filled n (difference R t (view c)) c)

@@ -11,6 +11,7 @@ use borrow.Author.Tests.{eqb-true}
 use Rattle.bucket.specs.Lists.{elem, Distinct}
 use Rattle.bucket.proofs.ListLaws.{elem-head, elem-tail, elem-cons-ne, elem-last, distinct-last}
 use Rattle.filter.specs.Lists.{select, minus}
+use Rattle.filter.proofs.OrderLaws.{same-test}
 
 -- ---- membership, as a test and as a proof
 
@@ -221,3 +222,42 @@ unfolding minus
 pick-minus t l a d m h =
     pick-select (λ b. b) (λ b. not (elem b l)) (λ b. not (elem b (a ∷ l))) a (ap not h) (ap not (elem-head a l))
     (λ y k. ap not (sym (elem-cons-ne y a l k))) t m (rw map-same d)
+
+-- ---- parts of parts
+
+select-swap : (p q r : ℕ → Bool) (l : List ℕ) → ((a : ℕ) → p a ≡ true → q a ≡ r a) → select q (select p l) ≡ select p (select r l)
+select-swap p q r [] h = unfold select in refl
+select-swap p q r (a ∷ l) h = go (p a) (r a) refl refl (select-swap p q r l h)
+  where
+    go : (b c : Bool) → p a ≡ b → r a ≡ c → select q (select p l) ≡ select p (select r l)
+        → select q (select p (a ∷ l)) ≡ select p (select r (a ∷ l))
+    go true true e k ih =
+        rw (select-yes p a l e, select-yes r a l k, select-yes q a (select p l) (h a e ∙ k), select-yes p a (select r l) e, ih)
+    go true false e k ih = rw (select-yes p a l e, select-no r a l k, select-no q a (select p l) (h a e ∙ k)) ih
+    go false true e k ih = rw (select-no p a l e, select-yes r a l k, select-no p a (select r l) e) ih
+    go false false e k ih = rw (select-no p a l e, select-no r a l k) ih
+
+elem-select : (p : ℕ → Bool) (l : List ℕ) (a : ℕ) → p a ≡ true → elem a (select p l) ≡ elem a l
+elem-select p l a e =
+    same-test (elem a (select p l)) (elem a l) (λ k. mem-elem (mem-select p a l (elem-mem a (select p l) k)))
+    (λ k. mem-elem (select-mem p a l (elem-mem a l k) e))
+
+pub minus-select : (p : ℕ → Bool) (t s : List ℕ) → minus (select p t) (select p s) ≡ select p (minus t s)
+unfolding minus
+minus-select p t s =
+    select-swap p (λ a. not (elem a (select p s))) (λ a. not (elem a s)) t (λ a e. ap not (elem-select p s a e))
+
+pub distinct-select : (p : ℕ → Bool) (l : List ℕ) → Distinct l → Distinct (select p l)
+distinct-select p [] d = unfold select in tt
+distinct-select p (a ∷ l) d =
+    select-cases (λ (m : List ℕ). Distinct m) p a l
+    (λ e. (not-elem a (select p l) (λ m. true≢false (sym (mem-elem (mem-select p a l m)) ∙ d .0)), distinct-select p l (d .1)))
+    (λ e. distinct-select p l (d .1))
+
+select-none : (p : ℕ → Bool) (l : List ℕ) → ((a : ℕ) → List·Memᴰ a l → p a ≡ false) → select p l ≡ []
+select-none p [] h = unfold select in refl
+select-none p (a ∷ l) h = select-no p a l (h a (head refl)) ∙ select-none p l (λ b m. h b (tail m))
+
+pub minus-self : (t : List ℕ) → minus t t ≡ []
+unfolding minus
+minus-self t = select-none (λ a. not (elem a t)) t (λ a m. ap not (mem-elem m))

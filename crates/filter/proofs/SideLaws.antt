@@ -4,7 +4,7 @@ use mathlib.Core.Logic.{_⊎_, inl, inr}
 use mathlib.Core.Bool.{Bool, true, false, not, _&&_}
 use mathlib.Core.List.{List, [], _∷_, _++_, map, List·Memᴰ}
 use mathlib.Core.List.List·Memᴰ.{List·Memᴰ·head as head, List·Memᴰ·tail as tail}
-use Prim.Native.Nat.{ℕ, _≤_}
+use Prim.Native.Nat.{ℕ, _+_, _≤_}
 use native.Mathlib.Omega.{arith}
 use lib.ListN.{length}
 use Rattle.bucket.specs.Lists.{elem, Distinct}
@@ -13,7 +13,7 @@ use Rattle.filter.specs.Lists.{minus}
 use Rattle.filter.specs.Filter.{Item, ours, theirs, idOf, ids, oursOf, theirsOf}
 use Rattle.filter.specs.Peeling.{fits}
 use Rattle.filter.specs.Stopping.{differing}
-use Rattle.filter.proofs.SelectLaws.{not-both, mem-elem, key-same, distinct-append, distinct-minus, mem-minus, mem-minus-not}
+use Rattle.filter.proofs.SelectLaws.{not-both, mem-elem, key-same, distinct-append, distinct-minus, mem-minus, mem-minus-not, minus-self}
 
 pub ours-of : (a b : List ℕ) → oursOf (map ours a ++ map theirs b) ≡ a
 unfolding oursOf
@@ -160,3 +160,19 @@ differing-side t s (theirs a) m =
 
 pub differing-fits : (t s : List ℕ) (l : List Item) → ((x : Item) → List·Memᴰ x l → List·Memᴰ x (differing t s)) → fits t l ≡ true
 differing-fits t s l h = fits-of t l (λ x m. differing-side t s x (h x m))
+
+-- ---- how many
+
+pub sides-length : (acc : List Item) → length (oursOf acc) + length (theirsOf acc) ≡ length acc
+unfolding oursOf theirsOf
+sides-length [] = refl
+sides-length (ours a ∷ l) = omega (arith, sides-length l)
+sides-length (theirs a ∷ l) = omega (arith, sides-length l)
+
+pub differing-length : (t s : List ℕ) → length (differing t s) ≡ length (minus t s) + length (minus s t)
+differing-length t s =
+    sym (sides-length (differing t s)) ∙ ap₂ (λ (a b : List ℕ). length a + length b) (differing-ours t s) (differing-theirs t s)
+
+pub differing-self : (t : List ℕ) → differing t t ≡ []
+unfolding differing
+differing-self t = ap₂ (λ (a b : List ℕ). map ours a ++ map theirs b) (minus-self t) (minus-self t)

@@ -30,10 +30,9 @@ use Rattle.filter.specs.Peeling.{Outcome, allZero, fits, verdictBy, isCo
 use Rattle.filter.specs.Stopping.{differing, Clear, StoppingSet, Exactly}
 use Rattle.filter.specs.Estimator.{estimatorRule, inStratum, stratumRule, stratum, less, strataVerdict, readingAt, readings, estimateOf}
 use Rattle.filter.proofs.OrderLaws.{same-test}
-use Rattle.filter.proofs.SelectLaws.{elem-mem, mem-elem, not-elem, select-yes, select-no, select-cases, mem-select, select-mem, distinct-minus}
-use Rattle.filter.proofs.SideLaws.{ours-mem, theirs-mem, distinct-ours, distinct-theirs, differing-ours, differing-theirs}
+use Rattle.filter.proofs.SelectLaws.{elem-mem, mem-select, distinct-minus, minus-select, distinct-select}
+use Rattle.filter.proofs.SideLaws.{ours-mem, theirs-mem, distinct-ours, distinct-theirs, differing-ours, differing-theirs, sides-length, differing-length}
 use Rattle.filter.proofs.PeelLaws.{reading-cong}
-use Rattle.filter.proofs.ListedLaws.{sides-length}
 use Rattle.filter.proofs.StrataLaws.{elem-stratum, Like, verdict-like}
 use Rattle.filter.proofs.SoundLaws.{verdict-complete, reading-distinct}
 use Rattle.filter.proofs.LeftLaws.{Fair}
@@ -73,10 +72,6 @@ filter-stratum salt s i (a ∷ t) h =
 distinct-same : (l m : List ℕ) → Distinct l → Distinct m → ((a : ℕ) → elem a l ≡ elem a m) → length l ≡ length m
 distinct-same l m dl dm same =
     omega (arith, distinct-count l m dl (λ a e. sym (same a) ∙ e), distinct-count m l dm (λ a e. same a ∙ e))
-
-pub differing-length : (t s : List ℕ) → length (differing t s) ≡ length (minus t s) + length (minus s t)
-differing-length t s =
-    sym (sides-length (differing t s)) ∙ ap₂ (λ (a b : List ℕ). length a + length b) (differing-ours t s) (differing-theirs t s)
 
 and-not : (a b : Bool) → (a ≡ true → b ≡ false) → a && not b ≡ a
 and-not true b h = ap not (h refl)
@@ -142,35 +137,6 @@ module _ (R : Rule) (t s : List ℕ) (dt : Distinct t) (ds : Distinct s) where
         (rw (complete-anyway e) at (exactly R placed t s dt ds g made fair))
 
 -- ---- the strata of a list
-
-select-swap : (p q r : ℕ → Bool) (l : List ℕ) → ((a : ℕ) → p a ≡ true → q a ≡ r a) → select q (select p l) ≡ select p (select r l)
-select-swap p q r [] h = unfold select in refl
-select-swap p q r (a ∷ l) h = go (p a) (r a) refl refl (select-swap p q r l h)
-  where
-    go : (b c : Bool) → p a ≡ b → r a ≡ c → select q (select p l) ≡ select p (select r l)
-        → select q (select p (a ∷ l)) ≡ select p (select r (a ∷ l))
-    go true true e k ih =
-        rw (select-yes p a l e, select-yes r a l k, select-yes q a (select p l) (h a e ∙ k), select-yes p a (select r l) e, ih)
-    go true false e k ih = rw (select-yes p a l e, select-no r a l k, select-no q a (select p l) (h a e ∙ k)) ih
-    go false true e k ih = rw (select-no p a l e, select-yes r a l k, select-no p a (select r l) e) ih
-    go false false e k ih = rw (select-no p a l e, select-no r a l k) ih
-
-elem-select : (p : ℕ → Bool) (l : List ℕ) (a : ℕ) → p a ≡ true → elem a (select p l) ≡ elem a l
-elem-select p l a e =
-    same-test (elem a (select p l)) (elem a l) (λ k. mem-elem (mem-select p a l (elem-mem a (select p l) k)))
-    (λ k. mem-elem (select-mem p a l (elem-mem a l k) e))
-
-minus-select : (p : ℕ → Bool) (t s : List ℕ) → minus (select p t) (select p s) ≡ select p (minus t s)
-unfolding minus
-minus-select p t s =
-    select-swap p (λ a. not (elem a (select p s))) (λ a. not (elem a s)) t (λ a e. ap not (elem-select p s a e))
-
-distinct-select : (p : ℕ → Bool) (l : List ℕ) → Distinct l → Distinct (select p l)
-distinct-select p [] d = unfold select in tt
-distinct-select p (a ∷ l) d =
-    select-cases (λ (m : List ℕ). Distinct m) p a l
-    (λ e. (not-elem a (select p l) (λ m. true≢false (sym (mem-elem (mem-select p a l m)) ∙ d .0)), distinct-select p l (d .1)))
-    (λ e. distinct-select p l (d .1))
 
 pub stratum-distinct : (salt i : ℕ) (l : List ℕ) → Distinct l → Distinct (inStratum salt i l)
 unfolding inStratum
@@ -327,19 +293,7 @@ module _ (salt i : ℕ) (t s : List ℕ) (dt : Distinct t) (ds : Distinct s) (sm
       ∙ without-table R tᵢ alone
       (whole R rule-placed tᵢ sᵢ (stratum-distinct salt i t dt) (stratum-distinct salt i s ds) (filterOf R sᵢ) (λ j h. refl) rule-fair none)
 
--- ---- equal lists
-
-select-none : (p : ℕ → Bool) (l : List ℕ) → ((a : ℕ) → List·Memᴰ a l → p a ≡ false) → select p l ≡ []
-select-none p [] h = unfold select in refl
-select-none p (a ∷ l) h = select-no p a l (h a (head refl)) ∙ select-none p l (λ b m. h b (tail m))
-
-minus-self : (t : List ℕ) → minus t t ≡ []
-unfolding minus
-minus-self t = select-none (λ a. not (elem a t)) t (λ a m. ap not (mem-elem m))
-
-pub differing-self : (t : List ℕ) → differing t t ≡ []
-unfolding differing
-differing-self t = ap₂ (λ (a b : List ℕ). map ours a ++ map theirs b) (minus-self t) (minus-self t)
+-- ---- nothing differs
 
 -- nothing is clear, and has no stopping set
 module _ (R : Rule) (d : List Item) (empty : d ≡ []) where

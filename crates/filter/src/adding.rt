@@ -1,8 +1,8 @@
 // A table's elements added to three columns: our filter is made in cleared columns, and the difference over received ones. An estimator's
 // strata stand one behind the other, and a filter is a single stratum: one loop serves both.
 ghost use mathlib.Core.Path.{_≡_};
-ghost use Prim.Native.Nat.{ℕ, _≤_, _*_, _/_, _^_, min};
-ghost use lib.IntN.{pos, natAbs};
+ghost use Prim.Native.Nat.{_≤_, _*_, _/_, _^_, min};
+ghost use lib.IntN.{pos};
 ghost use lib.ListN.{length};
 ghost use Rattle.bucket.specs.Bucket.{bucket, _⊕_};
 ghost use Rattle.bucket.specs.Columns.{columns, view};

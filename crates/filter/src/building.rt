@@ -1,8 +1,6 @@
 // Building: the filter of a table, in three lent columns.
 ghost use mathlib.Core.Path.{_≡_};
 ghost use mathlib.Core.Bool.{true};
-ghost use Prim.Native.Nat.{_≤_, _/_};
-ghost use lib.ListN.{length};
 ghost use Rattle.bucket.specs.Columns.{columns};
 ghost use Rattle.bucket.specs.Crc.{crcTables};
 ghost use Rattle.filter.specs.Answers.{refusalNumber};

@@ -36,7 +36,7 @@ pub(crate) fn clear_list(xs: &mut [u64], n: usize)
 
 // Turned signs make the received filter the one to be subtracted: the XOR sums are their own opposites.
 pub(crate) fn negate(counts: &mut [i64], n: usize)
-    requires { ⌜ (n ≤ length (now counts)) × ((i : ℕ) → i < n → natAbs (getD (now counts) i (pos 0)) < 2 ^ 62) ⌝ }
+    requires { ⌜ (n ≤ length (now counts)) × ((i : ℕ) → i < n → natAbs (getD (now counts) i (pos 0)) < 2 ^ 61) ⌝ }
     ensures { λ _. ⌜ now (counts .exit) ≡ negated n (now (counts .entry)) ⌝ }
 {
     let mut i: usize = 0;

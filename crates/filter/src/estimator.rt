@@ -1,13 +1,12 @@
 // The estimator: how different two tables are, before a filter's size is chosen.
 ghost use mathlib.Core.Path.{_≡_};
 ghost use mathlib.Core.Bool.{true, _&&_};
-ghost use Rattle.bucket.specs.Columns.{columns, view};
-ghost use Rattle.bucket.specs.Crc.{crcTables};
+ghost use Rattle.bucket.specs.Columns.{columns};
 ghost use Rattle.filter.specs.Answers.{refusalNumber, estimateAnswer};
 ghost use Rattle.filter.specs.Table.{firstEight, idsOf, isTable};
 ghost use Rattle.filter.specs.Filter.{filterOf};
 ghost use Rattle.filter.specs.Calls.{areCounts, hasRoom, filled, built};
-ghost use Rattle.filter.specs.Estimator.{estimatorRule, estimatorCall, estimated, estimateCall, readings, estimateOf, remaining, less};
+ghost use Rattle.filter.specs.Estimator.{estimatorRule, estimatorCall, estimated, estimateCall};
 use crate::answers::Estimation;
 use crate::answers::Refusal;
 

@@ -1,17 +1,17 @@
 // Peeling: the lowest bucket that looks pure is listed and taken out of its places, again and again. The buckets that look pure
 // are kept as a set, changed only where a peel touches, and repeated IDs are found by chains.
 ghost use mathlib.Core.Path.{_≡_};
-ghost use mathlib.Core.Bool.{Bool, true, false};
+ghost use mathlib.Core.Bool.{true, false};
 ghost use mathlib.Core.List.{List, _∷_};
 ghost use Prim.Native.Nat.{ℕ, _<_, _≤_, _^_};
 ghost use lib.IntN.{natAbs};
 ghost use lib.ListN.{length};
-ghost use Rattle.bucket.specs.Bucket.{bucket, _⊕_, isOne, looksPure};
+ghost use Rattle.bucket.specs.Bucket.{bucket, _⊕_, isOne};
 ghost use Rattle.bucket.specs.Columns.{columns, view, place};
 ghost use Rattle.bucket.specs.Crc.{crcTables};
 ghost use Rattle.bucket.specs.Places.{places};
 ghost use Rattle.filter.specs.Filter.{Item, rule};
-ghost use Rattle.filter.specs.Peeling.{sided, reading, isPure};
+ghost use Rattle.filter.specs.Peeling.{sided, reading};
 ghost use Rattle.filter.specs.Calls.{filled};
 ghost use Rattle.filter.specs.Marks.{Marks};
 ghost use Rattle.filter.specs.Repeats.{Chains};

@@ -1,7 +1,7 @@
 // IDs noted as they are listed: was one noted already? Chains keyed by the low bits find it without a pass over all of them.
 ghost use mathlib.Core.Path.{_≡_};
 ghost use mathlib.Core.List.{_∷_};
-ghost use Prim.Native.Nat.{ℕ, _<_, _+_, _%_};
+ghost use Prim.Native.Nat.{_<_, _+_, _%_};
 ghost use Rattle.bucket.specs.Lists.{elem};
 ghost use Rattle.filter.specs.Repeats.{Points, Headed, Chains, upto, Enrolled};
 

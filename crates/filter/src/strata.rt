@@ -1,19 +1,13 @@
 // The strata of an estimator: one subtracted from another, and the readings of the strata counted.
 ghost use mathlib.Core.Path.{_≡_};
-ghost use mathlib.Core.Bool.{true};
-ghost use Prim.Native.Nat.{ℕ, _<_, _≤_, _+_, _*_, _/_, _^_};
-ghost use lib.IntN.{pos};
-ghost use lib.ListN.{length};
-ghost use Rattle.bucket.specs.Bucket.{bucket, _⊕_};
+ghost use Prim.Native.Nat.{_<_, _+_, _*_, _^_};
 ghost use Rattle.bucket.specs.Columns.{columns, view};
-ghost use Rattle.bucket.specs.Crc.{crcOf, crcTables};
-ghost use Rattle.filter.specs.Table.{firstEight, idsOf};
-ghost use Rattle.filter.specs.Filter.{filterOf, rule};
-ghost use Rattle.filter.specs.Peeling.{reading, isComplete};
+ghost use Rattle.bucket.specs.Crc.{crcTables};
+ghost use Rattle.filter.specs.Peeling.{reading};
 ghost use Rattle.filter.specs.Calls.{filled};
-ghost use Rattle.filter.specs.Estimator.{estimatorRule, stratumRule, strataVerdict, readingAt, readings, estimateOf, leftBy, leftAt, remaining, less};
+ghost use Rattle.filter.specs.Estimator.{stratumRule, strataVerdict, readingAt, readings, estimateOf, leftBy, leftAt, remaining, less};
 ghost use Rattle.filter.specs.Repeats.{Chains};
-ghost use Rattle.filter.specs.Steps.{Wide, Small, spread, Counted};
+ghost use Rattle.filter.specs.Steps.{Wide, Small, Counted};
 
 // The first n buckets become themselves minus the others.
 pub(crate) fn subtract(

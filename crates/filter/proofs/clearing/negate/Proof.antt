@@ -1,4 +1,4 @@
--- `clearing::negate` meets its contract: a count below 2^62 has an opposite of 64 bits, and the invariant is that the first i signs are turned.
+-- `clearing::negate` meets its contract: a count below 2^61 has an opposite of 64 bits, and the invariant is that the first i signs are turned.
 -- Assumes nothing.
 use Prim.Native.Nat.{_-_}
 use native.Mathlib.Omega.{arith}
