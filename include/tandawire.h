@@ -99,8 +99,8 @@ typedef struct tandawire_estimation {
  * difference. The second's columns are not changed. Only the first TANDAWIRE_ESTIMATOR_PLACES places of each slice are judged and written. Answers 0, or 1
  * or 2; a refusal leaves everything unchanged.
  *
- * An estimate of 0 means that the tables are equal, or that the first stratum with something in it could not be read: two tables with little in
- * common may give 0. docs/USING.md says how to choose a filter's size by it. */
+ * An estimate of 0 means that the estimators are equal, as those of equal tables are, or that the first stratum with something in it could not be
+ * read: two tables with little in common may give 0. docs/USING.md says how to choose a filter's size by it. */
 tandawire_estimation tandawire_estimate(uint64_t *ids, size_t ids_length,
                                         uint32_t *hashes, size_t hashes_length,
                                         int64_t *counts, size_t counts_length,

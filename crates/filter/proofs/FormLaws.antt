@@ -2,7 +2,7 @@
 use mathlib.Core.Path.{_≡_, refl, sym, ap, _∙_}
 use mathlib.Core.Bool.{Bool, true, false, _&&_, and-eq-true-iff, true≢false, false≢true}
 use mathlib.Core.List.{List, [], _∷_}
-use Prim.Native.Nat.{ℕ, zero, suc, _+_, _^_, _≤_, _<_}
+use Prim.Native.Nat.{ℕ, zero, suc, _+_, _^_, min, _≤_, _<_}
 use native.Mathlib.Nat.{le-of-suc-le-suc}
 use native.Mathlib.Numerals.{add-one}
 use native.Mathlib.Omega.{arith}
@@ -37,39 +37,39 @@ count-not-negative z f e =
     go (pos n) e = refl
     go (negsuc n) e = absurd (true≢false e)
 
--- counts tested one after another: what is left to test decides
+-- counts tested one after another: what was found and what is left to test decide
 
-pub record Tested (n : ℕ) (cs : List ℤ) (i : ℕ) : Type 0 where
-  pub rest : allCounts (drop i (take n cs)) ≡ areCounts n cs
+pub record Tested (n : ℕ) (cs : List ℤ) (good : Bool) (i : ℕ) : Type 0 where
+  pub rest : good && allCounts (drop i (take n cs)) ≡ areCounts n cs
 
-pub tested-start : (n : ℕ) (cs : List ℤ) → Tested n cs 0
+pub tested-start : (n : ℕ) (cs : List ℤ) → Tested n cs true 0
 tested-start n cs = record { rest = refl }
 
-module _ (n : ℕ) (cs : List ℤ) (i : ℕ) (k : Tested n cs i) where
-  pub tested-all : length (take n cs) ≤ i → true ≡ areCounts n cs
+module _ (n : ℕ) (cs : List ℤ) (good : Bool) (i : ℕ) (k : Tested n cs good i) where
+  pub tested-end : min n (length cs) ≤ i → good ≡ areCounts n cs
   unfolding allCounts
-  tested-all h = ap allCounts (sym (drop-of-length-le (take n cs) h)) ∙ k .rest
+  tested-end h =
+      sym (same good) ∙ ap (λ (l : List ℤ). good && allCounts l) (sym (drop-of-length-le (take n cs) {i = i} (omega (arith, length-take n cs)))) ∙ k .rest
+    where
+      same : (b : Bool) → b && true ≡ b
+      same true = refl
+      same false = refl
 
-  pub tested-past : length cs ≤ i → true ≡ areCounts n cs
-  tested-past h = tested-all (omega (arith, length-take n cs))
+  pub tested-next : (t : Bool) → i < n → i < length cs → t ≡ isCount (getD cs i (pos 0)) → Tested n cs (good && t) (i + 1)
+  unfolding allCounts
+  tested-next t h l e = record {
+    rest = both good ∙ ap (λ (u : Bool). good && u) here ∙ k .rest;
+  }
+    where
+      both : (b : Bool) → (b && t) && allCounts (drop (i + 1) (take n cs)) ≡ b && (t && allCounts (drop (i + 1) (take n cs)))
+      both true = refl
+      both false = refl
 
-  pub tested-end : n ≤ i → true ≡ areCounts n cs
-  tested-end h = tested-all (omega (arith, length-take n cs))
-
-  module _ (h : i < n) (l : i < length cs) (t : Bool) (e : t ≡ isCount (getD cs i (pos 0))) where
-    next : t && allCounts (drop (i + 1) (take n cs)) ≡ areCounts n cs
-    unfolding allCounts
-    next =
-        ap (λ (u : Bool). u && allCounts (drop (i + 1) (take n cs))) (e ∙ ap isCount (sym (getD-take n cs i (pos 0) h)))
-        ∙ ap (λ (m : ℕ). isCount (getD (take n cs) i (pos 0)) && allCounts (drop m (take n cs))) (add-one i)
-        ∙ ap allCounts (sym (drop-cons (take n cs) i (pos 0) (omega (arith, length-take n cs))))
-        ∙ k .rest
-
-    pub tested-more : t ≡ true → Tested n cs (i + 1)
-    tested-more y = record { rest = ap (λ (u : Bool). u && allCounts (drop (i + 1) (take n cs))) (sym y) ∙ next }
-
-    pub tested-fails : t ≡ false → false ≡ areCounts n cs
-    tested-fails y = ap (λ (u : Bool). u && allCounts (drop (i + 1) (take n cs))) (sym y) ∙ next
+      here : t && allCounts (drop (i + 1) (take n cs)) ≡ allCounts (drop i (take n cs))
+      here =
+          ap (λ (u : Bool). u && allCounts (drop (i + 1) (take n cs))) (e ∙ ap isCount (sym (getD-take n cs i (pos 0) h)))
+          ∙ ap (λ (m : ℕ). isCount (getD (take n cs) i (pos 0)) && allCounts (drop m (take n cs))) (add-one i)
+          ∙ ap allCounts (sym (drop-cons (take n cs) i (pos 0) (omega (arith, length-take n cs))))
 
 -- tested counts are small
 

@@ -13,22 +13,19 @@ pub fn in_range(size: u32, salt: u32) -> bool
     (37 <= size) & ((size <= 4096) & (salt < 64))
 }
 
-// Whether the first size counts, or as many as there are, lie in 0 to 2^32 − 1.
+// Whether the first size counts, or as many as there are, lie in 0 to 2^32 − 1. The loop does not stop at one that does not, so that the compiler
+// can test several at once.
 pub fn are_counts(counts: &[i64], size: u32) -> bool
     ensures { λ r. ⌜ r ≡ areCounts size (now (counts .entry)) ⌝ }
 {
-    let n = size as usize;
+    let n = bucket::least(size as usize, counts.len());
+    let mut good = true;
     let mut i: usize = 0;
     while i < n {
-        if counts.len() <= i {
-            return true;
-        }
-        if !is_count(counts[i]) {
-            return false;
-        }
+        good = good & is_count(counts[i]);
         i += 1;
     }
-    true
+    good
 }
 
 // Whether each column has at least size places.

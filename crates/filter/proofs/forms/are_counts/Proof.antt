@@ -1,33 +1,29 @@
--- `forms::are_counts` meets its contract: the counts from i on decide, since those before i were counts; past the end of the column nothing is left to test.
+-- `forms::are_counts` meets its contract: what was found so far and the counts from i on decide, and past the end of the column nothing is left to test.
 -- Assumes nothing.
 use mathlib.Core.Path.{_≡_, ap, _∙_}
 use Prim.Native.Nat.{_-_}
 use native.Mathlib.Omega.{arith}
 use borrow.Author.Needs.{needs}
-use borrow.Author.Tests.{not-true, not-false}
 use lib.IntN.{pos}
 use lib.ListN.{getD}
 use mir.Syntax.{w64}
 use mir.ValLaws.{toZ-ofZ}
 use Rattle.filter.specs.Calls.{isCount}
-use Rattle.filter.proofs.FormLaws.{Tested, tested-start, tested-past, tested-end, tested-more, tested-fails}
+use Rattle.filter.proofs.FormLaws.{Tested, tested-start, tested-next, tested-end}
 use Rattle.filter.proofs.forms.are_counts.Statement.{statement}
 use Rattle.filter.proofs.forms.are_counts.Tie as tie
 
 abbrev Inv-loop : tie.InvT-loop
-Inv-loop counts size n i₀ i = Tested size counts i
+Inv-loop counts size n good₀ i₀ good i = Tested size counts good i
 
 abbrev μ-loop : tie.MeasureT-loop
-μ-loop counts size n i₀ i = size - i
+μ-loop counts size n good₀ i₀ good i = n - i
+
+least-requires : tie.Need-least-requires Inv-loop μ-loop
+least-requires c κs = search needs
 
 loop-holds : tie.Need-loop-holds Inv-loop μ-loop
-loop-holds c = tested-start (c .args .size) (c .args .counts .now)
-
-returns : tie.Need-returns Inv-loop μ-loop
-returns c =
-    let a = c .before .before .before .args in
-    let w = c .before .before .loop in
-    tested-past (a .size) (a .counts .now) (w .i) (w .inv) (c .if1 .taken)
+loop-holds c = tested-start (c .before .args .size) (c .before .args .counts .now)
 
 mul-is-count : tie.Need-mul-is-count Inv-loop μ-loop
 mul-is-count c = search needs
@@ -38,19 +34,6 @@ shared-slice-copy-out-is-count c = search needs
 is-count-requires : tie.Need-is-count-requires Inv-loop μ-loop
 is-count-requires c κs = search needs
 
-answered : (c : tie.After-is-count Inv-loop μ-loop) → let a = c .before .before .before .before .before .args in let w = c .before .before .before .before .loop in
-    c .is-count .result ≡ isCount (getD (a .counts .now) (w .i) (pos 0))
-answered c =
-    let a = c .before .before .before .before .before .args in
-    let w = c .before .before .before .before .loop in
-    c .is-count .ensures ∙ ap isCount (toZ-ofZ w64 (getD (a .counts .now) (w .i) (pos 0)) (record { sfits = c .before .is-count-arg .given }))
-
-returns-2 : tie.Need-returns-2 Inv-loop μ-loop
-returns-2 c =
-    let a = c .before .before .before .before .before .before .args in
-    let w = c .before .before .before .before .before .loop in
-    tested-fails (a .size) (a .counts .now) (w .i) (w .inv) (omega arith) (omega arith) (c .before .is-count .result) (answered (c .before)) (not-true _ (c .if2 .taken))
-
 add-i : tie.Need-add-i Inv-loop μ-loop
 add-i c = search needs
 
@@ -59,15 +42,18 @@ loop-less c = search needs
 
 loop-again : tie.Need-loop-again Inv-loop μ-loop
 loop-again c =
-    let a = c .before .before .before .before .before .before .args in
-    let w = c .before .before .before .before .before .loop in
-    tested-more (a .size) (a .counts .now) (w .i) (w .inv) (omega arith) (omega arith) (c .before .is-count .result) (answered (c .before)) (not-false _ (c .if2 .left))
+    let a = c .before .before .before .before .before .args in
+    let w = c .before .before .before .loop in
+    let m = c .before .before .before .before .least .ensures in
+    tested-next (a .size) (a .counts .now) (w .good) (w .i) (w .inv) (c .is-count .result) (omega (arith, m, c .before .before .loop-test .taken))
+    (omega (arith, m, c .before .before .loop-test .taken))
+    (c .is-count .ensures ∙ ap isCount (toZ-ofZ w64 (getD (a .counts .now) (w .i) (pos 0)) (record { sfits = c .before .is-count-arg .given })))
 
-returns-3 : tie.Need-returns-3 Inv-loop μ-loop
-returns-3 c =
-    let a = c .before .before .args in
+returns : tie.Need-returns Inv-loop μ-loop
+returns c =
+    let a = c .before .before .before .args in
     let w = c .before .loop in
-    tested-end (a .size) (a .counts .now) (w .i) (w .inv) (c .loop-test .left)
+    tested-end (a .size) (a .counts .now) (w .good) (w .i) (w .inv) (omega (arith, c .before .before .least .ensures, c .loop-test .left))
 
 pub are-counts-spec : {M : Type 1} → statement M
 are-counts-spec =
@@ -75,13 +61,12 @@ are-counts-spec =
     (tie.spec
     Inv-loop
     μ-loop
+    least-requires
     loop-holds
-    returns
     mul-is-count
     shared-slice-copy-out-is-count
     is-count-requires
-    returns-2
     add-i
     loop-less
     loop-again
-    returns-3)
+    returns)
