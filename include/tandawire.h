@@ -1,8 +1,8 @@
 /* Tandawire: set reconciliation with peers that are not trusted.
  *
  * Two peers each hold a table of elements, known by their SHA-512 hashes. One sends an invertible Bloom filter in place of its list; the
- * other reads the difference off it. This header declares what the library offers so far: building a filter and reading one, and estimating
- * beforehand how large the difference is.
+ * other reads the difference off it. This header declares what the library offers so far: building a filter and reading one, estimating
+ * beforehand how large the difference is, and the messages that carry a filter and an element.
  *
  * Every call answers every input. A refusal is a number (TANDAWIRE_REFUSED_..), and each call says below what a refusal leaves behind.
  * The library keeps nothing between calls, allocates nothing and writes only where a call says, so calls on separate memory may run in
@@ -36,11 +36,34 @@ extern "C" {
 #define TANDAWIRE_STRATUM_PLACES 79
 #define TANDAWIRE_ESTIMATOR_PLACES (TANDAWIRE_STRATA * TANDAWIRE_STRATUM_PLACES)
 
-/* Refusals. They are tried in the order 1, 3, 2, then 6. */
+/* Messages: how many buckets a slice of a filter has at most, how many IDs an INQUIRY, hashes an OFFER or DEMAND and bytes an ELEMENT's content; the bytes before an
+ * ELEMENT's content; the bytes of a DONE; and the most bytes that a message, and that the messages of a whole filter take. */
+#define TANDAWIRE_SLICE_PLACES 2520
+#define TANDAWIRE_MOST_IDS 8190
+#define TANDAWIRE_MOST_HASHES 1023
+#define TANDAWIRE_MOST_CONTENT 65531
+#define TANDAWIRE_MESSAGE_HEAD 4
+#define TANDAWIRE_DONE_BYTES 68
+#define TANDAWIRE_MOST_MESSAGE 65535
+#define TANDAWIRE_MOST_FILTER_BYTES 65568
+
+/* The kinds of a message: MSG TYPE, or that there is none. */
+#define TANDAWIRE_MALFORMED 0
+#define TANDAWIRE_END 1
+#define TANDAWIRE_DEMAND 560
+#define TANDAWIRE_INQUIRY 561
+#define TANDAWIRE_OFFER 562
+#define TANDAWIRE_IBF 565
+#define TANDAWIRE_ELEMENT 566
+#define TANDAWIRE_IBF_LAST 567
+#define TANDAWIRE_DONE 568
+
+/* Refusals. They are tried in the order 1, 3, 2, 4, then 6. */
 #define TANDAWIRE_REFUSED_NONE 0
 #define TANDAWIRE_REFUSED_FORM 1  /* the table is none, or a COUNT is outside its range; everything unchanged */
-#define TANDAWIRE_REFUSED_ROOM 2  /* a column or list has too few places: fewer than size, or than TANDAWIRE_ESTIMATOR_PLACES; everything unchanged */
+#define TANDAWIRE_REFUSED_ROOM 2  /* a column, list or buffer is too short for the call; everything unchanged */
 #define TANDAWIRE_REFUSED_RANGE 3 /* the size or the salt is outside its range; everything unchanged */
+#define TANDAWIRE_REFUSED_MALFORMED 4 /* no message of the kind asked for, or a content that no message can hold; everything unchanged */
 #define TANDAWIRE_REFUSED_FALSE 6 /* the reading is false; columns and lists are zero in their first size places */
 
 /* Makes the filter of a table at a size and a salt, in the first size places of each column. What was there is overwritten; what lies behind
@@ -107,6 +130,64 @@ tandawire_estimation tandawire_estimate(uint64_t *ids, size_t ids_length,
                                         const uint64_t *second_ids, size_t second_ids_length,
                                         const uint32_t *second_hashes, size_t second_hashes_length,
                                         const int64_t *second_counts, size_t second_counts_length);
+
+/* A message: its kind (TANDAWIRE_IBF and so on) and numbers, and its place in the buffer. Fields that its kind does not have are 0. */
+typedef struct tandawire_message {
+    uint32_t kind;
+    uint32_t size;   /* IBF and IBF LAST: the buckets of the whole filter */
+    uint32_t offset; /* IBF and IBF LAST: the slice's first bucket, 0 or 2,520 */
+    uint32_t salt;   /* IBF, IBF LAST and INQUIRY */
+    uint32_t width;  /* IBF and IBF LAST: the bits of a counter */
+    size_t count;    /* buckets of the slice, IDs, hashes, or bytes of an ELEMENT's content; 1 for a DONE */
+    size_t start;    /* where it begins */
+    size_t next;     /* the position behind it */
+} tandawire_message;
+
+/* Reads the bytes as exactly one message. Malformed: TANDAWIRE_MALFORMED and 0 in every other field. What is read is well-formed in every field: ranges,
+ * MSG SIZE, the type of a slice, zeros in the spare bits of packed counters. The content of an ELEMENT is the count bytes from TANDAWIRE_MESSAGE_HEAD on. */
+tandawire_message tandawire_message_read(const uint8_t *message, size_t message_length);
+
+/* Walks a buffer that holds several messages end to end: the message that begins at a position, start is at and next the position behind it.
+ *
+ *     size_t at = 0;
+ *     tandawire_message m;
+ *     while (m = tandawire_message_at(buffer, length, at), m.kind > TANDAWIRE_END) {
+ *         .. buffer + m.start, m.next - m.start bytes ..
+ *         at = m.next;
+ *     }
+ *
+ * At the end of the buffer, or past it, the kind is TANDAWIRE_END. Where the bytes are no message the kind is TANDAWIRE_MALFORMED: the messages before it
+ * stand, and there is no way past it. In both cases start and next are the position given. */
+tandawire_message tandawire_message_at(const uint8_t *buffer, size_t buffer_length, size_t at);
+
+/* What a writer answers: the refusal; and the position behind what it wrote, 0 where it is refused. */
+typedef struct tandawire_written {
+    uint32_t refusal;
+    size_t next;
+} tandawire_written;
+
+/* Writes an element's content as one ELEMENT message into a buffer, from a position on. What is before and behind is not touched. Answers 0; or 2 where the
+ * message does not fit; or 4 where the content is empty or longer than TANDAWIRE_MOST_CONTENT. */
+tandawire_written tandawire_element_write(const uint8_t *content, size_t content_length,
+                                          uint8_t *out, size_t out_length, size_t at);
+
+/* Writes the filter in the first size places of three columns (as tandawire_build leaves it) as one IBF LAST message, or as an IBF and an IBF LAST for more than
+ * TANDAWIRE_SLICE_PLACES buckets, into a buffer, from a position on, its counters at the smallest width that holds them all. TANDAWIRE_MOST_FILTER_BYTES bytes are
+ * always enough. What is before and behind is not touched. Answers 0; or 1 where a COUNT is outside its range, 3 for the size or the salt, 2 where a column
+ * or the buffer is too short. */
+tandawire_written tandawire_filter_write(const uint64_t *ids, size_t ids_length,
+                                         const uint32_t *hashes, size_t hashes_length,
+                                         const int64_t *counts, size_t counts_length,
+                                         uint32_t size, uint32_t salt,
+                                         uint8_t *out, size_t out_length, size_t at);
+
+/* Lays the slice of an IBF or IBF LAST message into three columns, in its places from its offset on. Nothing else is touched. Once all slices of a filter are laid
+ * (one size, salt and width, in order: the caller sees to it), tandawire_read reads it at the size and salt that the messages name. Answers 0; or 2 where a column has
+ * no room for the slice; or 4 where the bytes are not exactly one such message. */
+uint32_t tandawire_filter_lay(const uint8_t *message, size_t message_length,
+                              uint64_t *ids, size_t ids_length,
+                              uint32_t *hashes, size_t hashes_length,
+                              int64_t *counts, size_t counts_length);
 
 #ifdef __cplusplus
 }

@@ -96,6 +96,100 @@ static void expect_estimators(void)
     expect("estimate, none then", (size_t)e.estimate, 0);
 }
 
+/* A buffer for the messages of a filter, and one byte more. */
+static uint8_t buffer[TANDAWIRE_MOST_FILTER_BYTES + 1];
+
+static tandawire_written write_filter(size_t room, uint32_t size, uint32_t salt)
+{
+    return tandawire_filter_write(ids, ROOM, hashes, ROOM, counts, ROOM, size, salt, buffer, room, 0);
+}
+
+static void expect_message(const char *what, tandawire_message m, uint32_t kind, uint32_t size, uint32_t offset, uint32_t salt, uint32_t width,
+                           size_t count, size_t start, size_t next)
+{
+    expect(what, m.kind, kind);
+    expect(what, m.size, size);
+    expect(what, m.offset, offset);
+    expect(what, m.salt, salt);
+    expect(what, m.width, width);
+    expect(what, m.count, count);
+    expect(what, m.start, start);
+    expect(what, m.next, next);
+}
+
+/* A message of a kind whose bytes behind the header are all zero. */
+static tandawire_message bare(uint32_t kind, size_t bytes)
+{
+    memset(buffer, 0, sizeof buffer);
+    buffer[0] = (uint8_t)(bytes >> 8);
+    buffer[1] = (uint8_t)bytes;
+    buffer[2] = (uint8_t)(kind >> 8);
+    buffer[3] = (uint8_t)kind;
+    return tandawire_message_read(buffer, bytes);
+}
+
+static void expect_filter_messages(void)
+{
+    const size_t most = TANDAWIRE_MOST_FILTER_BYTES, slice = TANDAWIRE_SLICE_PLACES, last = TANDAWIRE_MOST_SIZE - slice;
+    const size_t first = 16 + 12 * slice + 4 * slice;
+
+    memset(ids, 0, sizeof ids);
+    memset(hashes, 0, sizeof hashes);
+    memset(counts, 0, sizeof counts);
+    /* The largest counter of all is in the last bucket, and the widest there is. */
+    ids[TANDAWIRE_MOST_SIZE - 1] = 7;
+    counts[TANDAWIRE_MOST_SIZE - 1] = 0xffffffff;
+    expect("filter, most bytes", write_filter(most, TANDAWIRE_MOST_SIZE, 5).next, most);
+    expect("filter, one byte less", write_filter(most - 1, TANDAWIRE_MOST_SIZE, 5).refusal, TANDAWIRE_REFUSED_ROOM);
+    expect_message("the walk, IBF", tandawire_message_at(buffer, most, 0), TANDAWIRE_IBF, TANDAWIRE_MOST_SIZE, 0, 5, 32, slice, 0, first);
+    expect_message("the walk, IBF LAST", tandawire_message_at(buffer, most, first), TANDAWIRE_IBF_LAST, TANDAWIRE_MOST_SIZE, (uint32_t)slice, 5, 32,
+                   last, first, most);
+    expect_message("the walk, the end", tandawire_message_at(buffer, most, most), TANDAWIRE_END, 0, 0, 0, 0, 0, most, most);
+    expect_message("the walk, malformed", tandawire_message_at(buffer, most, 1), TANDAWIRE_MALFORMED, 0, 0, 0, 0, 0, 1, 1);
+    expect_message("read, malformed", tandawire_message_read(buffer, most), TANDAWIRE_MALFORMED, 0, 0, 0, 0, 0, 0, 0);
+    ids[TANDAWIRE_MOST_SIZE - 1] = 0;
+    expect("lay, no room", tandawire_filter_lay(buffer + first, most - first, ids, ROOM, hashes, ROOM, counts, TANDAWIRE_MOST_SIZE - 1),
+           TANDAWIRE_REFUSED_ROOM);
+    expect("lay", tandawire_filter_lay(buffer + first, most - first, ids, ROOM, hashes, ROOM, counts, TANDAWIRE_MOST_SIZE), TANDAWIRE_REFUSED_NONE);
+    expect("lay, the last bucket", (size_t)ids[TANDAWIRE_MOST_SIZE - 1], 7);
+    expect("lay, two at once", tandawire_filter_lay(buffer, most, ids, ROOM, hashes, ROOM, counts, ROOM), TANDAWIRE_REFUSED_MALFORMED);
+    expect("filter, size", write_filter(most, TANDAWIRE_MOST_SIZE + 1, 5).refusal, TANDAWIRE_REFUSED_RANGE);
+    expect("filter, salt", write_filter(most, TANDAWIRE_MOST_SIZE, TANDAWIRE_MOST_SALT + 1).refusal, TANDAWIRE_REFUSED_RANGE);
+    counts[0] = -1;
+    tandawire_written w = write_filter(most, TANDAWIRE_MOST_SIZE, 5);
+    expect("filter, a count below 0", w.refusal, TANDAWIRE_REFUSED_FORM);
+    expect("filter, nowhere then", w.next, 0);
+}
+
+static void expect_messages(void)
+{
+    static uint8_t content[TANDAWIRE_MOST_CONTENT + 1];
+    const size_t most = TANDAWIRE_MOST_MESSAGE;
+
+    expect("element, empty", tandawire_element_write(content, 0, buffer, most, 0).refusal, TANDAWIRE_REFUSED_MALFORMED);
+    expect("element, too long", tandawire_element_write(content, TANDAWIRE_MOST_CONTENT + 1, buffer, sizeof buffer, 0).refusal, TANDAWIRE_REFUSED_MALFORMED);
+    expect("element, no room", tandawire_element_write(content, TANDAWIRE_MOST_CONTENT, buffer, most - 1, 0).refusal, TANDAWIRE_REFUSED_ROOM);
+    expect("element, longest", tandawire_element_write(content, TANDAWIRE_MOST_CONTENT, buffer, most, 0).next, most);
+    content[0] = 9;
+    expect("element, from a position", tandawire_element_write(content, 1, buffer, most, 3).next, 3 + TANDAWIRE_MESSAGE_HEAD + 1);
+    expect("element, its content", buffer[3 + TANDAWIRE_MESSAGE_HEAD], 9);
+    expect("null for nothing", tandawire_element_write(NULL, 0, NULL, 0, 0).refusal, TANDAWIRE_REFUSED_ROOM);
+    expect("null for nothing, read", tandawire_message_read(NULL, 0).kind, TANDAWIRE_MALFORMED);
+    expect("null for nothing, walked", tandawire_message_at(NULL, 0, 0).kind, TANDAWIRE_END);
+    expect("null for nothing, laid", tandawire_filter_lay(NULL, 0, NULL, 0, NULL, 0, NULL, 0), TANDAWIRE_REFUSED_MALFORMED);
+
+    const size_t inquiry = 8 + 8 * (size_t)TANDAWIRE_MOST_IDS, offer = TANDAWIRE_MESSAGE_HEAD + TANDAWIRE_HASH_BYTES * (size_t)TANDAWIRE_MOST_HASHES;
+    expect_message("INQUIRY", bare(TANDAWIRE_INQUIRY, inquiry), TANDAWIRE_INQUIRY, 0, 0, 0, 0, TANDAWIRE_MOST_IDS, 0, inquiry);
+    expect("no longer INQUIRY", inquiry + 8 > most, 1);
+    expect_message("OFFER", bare(TANDAWIRE_OFFER, offer), TANDAWIRE_OFFER, 0, 0, 0, 0, TANDAWIRE_MOST_HASHES, 0, offer);
+    expect_message("DEMAND", bare(TANDAWIRE_DEMAND, offer), TANDAWIRE_DEMAND, 0, 0, 0, 0, TANDAWIRE_MOST_HASHES, 0, offer);
+    expect("no longer OFFER", offer + TANDAWIRE_HASH_BYTES > most, 1);
+    expect_message("ELEMENT", bare(TANDAWIRE_ELEMENT, most), TANDAWIRE_ELEMENT, 0, 0, 0, 0, TANDAWIRE_MOST_CONTENT, 0, most);
+    expect_message("DONE", bare(TANDAWIRE_DONE, TANDAWIRE_DONE_BYTES), TANDAWIRE_DONE, 0, 0, 0, 0, 1, 0, TANDAWIRE_DONE_BYTES);
+    expect("DONE of 4 bytes", bare(TANDAWIRE_DONE, 4).kind, TANDAWIRE_MALFORMED);
+    expect_filter_messages();
+}
+
 int main(void)
 {
     const size_t all = (size_t)TANDAWIRE_MOST_ELEMENTS * TANDAWIRE_HASH_BYTES;
@@ -138,5 +232,6 @@ int main(void)
     expect("read, short lists", tandawire_read(table, 0, ids, 101, hashes, 101, counts, 101, ours, 100, theirs, 101, 101, 0).refusal, TANDAWIRE_REFUSED_ROOM);
 
     expect_estimators();
+    expect_messages();
     return 0;
 }

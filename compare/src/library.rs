@@ -1,11 +1,13 @@
 //! The library's exported functions behind safe wrappers: the only unsafe code here,
-//! with that of the layer above in library/filters.rs and library/estimator.rs.
+//! with that of the layers above in library/filters.rs, library/estimator.rs and
+//! library/messages.rs.
 //!
 //! Each wrapper lends whole slices by pointer and length, and the library keeps to them;
 //! the comparisons lend them out of larger buffers, to see that it does.
 
 pub mod estimator;
 pub mod filters;
+pub mod messages;
 
 use crate::model::{Bucket, Columns};
 

@@ -13,6 +13,7 @@ mod known;
 mod known_filters;
 mod library;
 mod malicious;
+mod messages;
 mod model;
 mod numbers;
 mod packing;
@@ -46,6 +47,7 @@ pub struct Tally {
     seed: u64,
     ends: Vec<(End, u64)>,
     outcomes: Vec<Outcome>,
+    messages: messages::Counts,
 }
 
 impl Tally {
@@ -134,7 +136,8 @@ fn main() {
     differ::must_be_there();
     let checked = known::check_model()
         .and_then(|()| known_filters::check_model())
-        .and_then(|()| estimates::check_model());
+        .and_then(|()| estimates::check_model())
+        .and_then(|()| messages::check_model());
     if let Err(what) = checked {
         println!("the model itself is wrong: {what}");
         exit(1);
@@ -144,6 +147,7 @@ fn main() {
         seed: 0,
         ends: Vec::new(),
         outcomes: Vec::new(),
+        messages: messages::Counts::default(),
     };
     numbers::compare(&mut tally);
     packing::compare(&mut tally);
@@ -156,6 +160,7 @@ fn main() {
     malicious::compare(&mut tally);
     crafted::compare(&mut tally);
     estimates::compare(&mut tally);
+    messages::compare(&mut tally);
     differ::compare(&mut tally);
 
     tally.tell_last();
@@ -171,6 +176,10 @@ fn main() {
     }
     if !estimates::are_enough(&tally.outcomes) {
         println!("more estimates are asked for, or more of a kind");
+        exit(1);
+    }
+    if !messages::are_enough(&tally.messages) {
+        println!("more messages are asked for, or more of a kind or of a refusal");
         exit(1);
     }
     let total: u64 = tally.subjects.iter().map(|(_, compared)| compared).sum();

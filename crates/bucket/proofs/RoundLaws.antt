@@ -19,7 +19,7 @@ use Rattle.bucket.proofs.RoomLaws.{Room, takes-room}
 use Rattle.bucket.proofs.TestLaws.{and-holds, cond-made}
 
 -- counts that fit are numbers of w bits
-numbers-below : (w : ℕ) (cs : List ℤ) → fitsIn w cs ≡ true → Below w (numbers cs)
+pub numbers-below : (w : ℕ) (cs : List ℤ) → fitsIn w cs ≡ true → Below w (numbers cs)
 numbers-below w cs h i = rw (List·getD-map number cs i (pos 0)) (go (ltb i (length cs)) refl)
   where
     go : (t : Bool) → ltb i (length cs) ≡ t → number (getD cs i (pos 0)) < 2 ^ w

@@ -186,7 +186,7 @@ fn has_bits(c: i64, w: u32) -> bool
     number_of(c) < two_to(w)
 }
 
-fn number_of(c: i64) -> u64
+pub fn number_of(c: i64) -> u64
     ensures { λ r. ⌜ r ≡ number c ⌝ }
 {
     if c < 0 { 0 } else { c as u64 }

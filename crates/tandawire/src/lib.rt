@@ -2,3 +2,4 @@
 // Each function is a proved one of a crate below, under a C name, with the same promise.
 pub mod estimators;
 pub mod filters;
+pub mod messages;

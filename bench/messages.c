@@ -1,0 +1,156 @@
+/* Nanoseconds per call of writing a filter as messages and of laying them into columns, and of plain C beside them.
+ *
+ *   messages         the table
+ *   messages NAME    one job once, by the library and by the C (for counting instructions)
+ *   messages names   the names, one a line
+ *   messages check   only whether the library and the C leave and answer the same
+ */
+#define _POSIX_C_SOURCE 199309L
+#include "jobs.h"
+
+#include "../include/tandawire.h"
+#include "baseline.h"
+#include "message.h"
+#include "tables.h"
+
+static struct tables tables;
+
+struct lent {
+    uint64_t ids[MOST];
+    int64_t counts[MOST];
+    uint32_t hashes[MOST];
+};
+
+static const struct side {
+    tandawire_written (*write)(const uint64_t *, size_t, const uint32_t *, size_t, const int64_t *, size_t, uint32_t, uint32_t, uint8_t *, size_t,
+                               size_t);
+    uint32_t (*lay)(const uint8_t *, size_t, uint64_t *, size_t, uint32_t *, size_t, int64_t *, size_t);
+} sides[2] = {{tandawire_filter_write, tandawire_filter_lay}, {c_filter_write, c_filter_lay}};
+
+/* The filter to be written, its messages by each side, and what each side lays of them. */
+static struct lent given, laid[2];
+static uint8_t sent[2][TANDAWIRE_MOST_FILTER_BYTES + 16];
+
+static tandawire_written write_by(int side, uint32_t size, uint32_t salt, size_t room, size_t at)
+{
+    return sides[side].write(given.ids, MOST, given.hashes, MOST, given.counts, MOST, size, salt, sent[side], room, at);
+}
+
+static uint32_t lay_by(int side, const uint8_t *message, size_t length, size_t room)
+{
+    return sides[side].lay(message, length, laid[side].ids, room, laid[side].hashes, room, laid[side].counts, room);
+}
+
+/* ---- The check ---- */
+
+static void fill(uint32_t width)
+{
+    for (size_t i = 0; i < MOST; i++) {
+        given.ids[i] = draw();
+        given.hashes[i] = (uint32_t)draw();
+        given.counts[i] = (int64_t)(draw() >> (64 - width));
+    }
+}
+
+/* Whether both sides lay a message alike; answers the refusal, or -1. */
+static int laid_alike(const uint8_t *message, size_t length, size_t room)
+{
+    uint32_t a[2];
+    for (int side = 0; side < 2; side++) {
+        memset(&laid[side], 0xA5, sizeof laid[side]);
+        a[side] = lay_by(side, message, length, room);
+    }
+    return a[0] == a[1] && memcmp(&laid[0], &laid[1], sizeof laid[0]) == 0 ? (int)a[0] : -1;
+}
+
+/* Every message of a filter, whole and with one bit changed in each of its first bytes and its last. */
+static int messages_alike(size_t from, size_t to)
+{
+    static uint8_t copy[TANDAWIRE_MOST_FILTER_BYTES];
+    while (from < to) {
+        tandawire_message m = tandawire_message_at(sent[0], to, from);
+        if (m.kind <= TANDAWIRE_END)
+            return 0;
+        size_t length = m.next - m.start;
+        memcpy(copy, sent[0] + m.start, length);
+        if (laid_alike(copy, length, MOST) != 0 || laid_alike(copy, length, m.offset + m.count - 1) != 2 || laid_alike(copy, length - 1, MOST) != 4)
+            return 0;
+        for (size_t i = 0; i < HEAD; i++)
+            for (int bit = 0; bit < 8; bit++) {
+                size_t at = i < HEAD - 1 ? i : length - 1;
+                copy[at] ^= (uint8_t)(1 << bit);
+                if (laid_alike(copy, length, MOST) < 0)
+                    return 0;
+                copy[at] ^= (uint8_t)(1 << bit);
+            }
+        from = m.next;
+    }
+    return 1;
+}
+
+static int check(void)
+{
+    static const uint32_t sizes[] = {36, 37, 38, 512, 2519, 2520, 2521, 4095, 4096, 4097};
+    for (uint32_t width = 1; width <= 33; width++)
+        for (size_t s = 0; s < sizeof sizes / sizeof sizes[0]; s++) {
+            size_t at = s % 3, room = sizeof sent[0];
+            fill(width);
+            for (int again = 0; again < 2; again++) {
+                tandawire_written a[2];
+                memset(sent, 0x5A, sizeof sent);
+                for (int side = 0; side < 2; side++)
+                    a[side] = write_by(side, sizes[s], (uint32_t)(width + s) % 65, room, at);
+                if (a[0].refusal != a[1].refusal || a[0].next != a[1].next || memcmp(sent[0], sent[1], sizeof sent[0]) != 0)
+                    return 0;
+                if (a[0].refusal == 0 && !messages_alike(at, a[0].next))
+                    return 0;
+                /* Once more with one byte too few. */
+                room = a[0].refusal == 0 ? a[0].next - 1 : room;
+            }
+        }
+    return 1;
+}
+
+/* ---- The jobs ---- */
+
+/* The filter of a table of 4,096 elements. */
+static const struct job jobs[] = {
+    {"write_4096", "filter_write", "write 4096 buckets", 4096, 4096, 0, 0},
+    {"lay_4096", "filter_lay", "lay 4096 buckets", 4096, 4096, 0, 0},
+};
+
+static double time_of(const struct job *job, int side, uint32_t salt)
+{
+    struct timespec a, b;
+    if (job == &jobs[0]) {
+        clock_gettime(CLOCK_MONOTONIC, &a);
+        tandawire_written w = write_by(side, job->size, salt, sizeof sent[side], 0);
+        clock_gettime(CLOCK_MONOTONIC, &b);
+        return w.refusal == 0 ? nanoseconds(a, b) : -1;
+    }
+    /* Written by hand of C, so that the library's writing is not counted. */
+    size_t end = c_filter_write(given.ids, MOST, given.hashes, MOST, given.counts, MOST, job->size, salt, sent[side], sizeof sent[side], 0).next;
+    size_t first = get(sent[side], 2);
+    clock_gettime(CLOCK_MONOTONIC, &a);
+    uint32_t r = lay_by(side, sent[side], first, MOST) | lay_by(side, sent[side] + first, end - first, MOST);
+    clock_gettime(CLOCK_MONOTONIC, &b);
+    return r == 0 && memcmp(&laid[side], &given, sizeof given) == 0 ? nanoseconds(a, b) : -1;
+}
+
+static void prepare(const struct job *job, uint32_t salt)
+{
+    if (salt == 1) {
+        state = SEED;
+        make(&tables, job->common, job->ours, job->theirs);
+    }
+    memset(&given, 0, sizeof given);
+    c_build(tables.ours, tables.ours_length, given.ids, MOST, given.hashes, MOST, given.counts, MOST, job->size, salt);
+}
+
+int main(int argc, char **argv)
+{
+    static const struct program program = {
+        "messages", jobs, sizeof jobs / sizeof jobs[0], check, prepare, time_of,
+    };
+    return run_program(&program, argc, argv);
+}

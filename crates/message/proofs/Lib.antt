@@ -1,0 +1,23 @@
+-- The laws of the crate `message`, for its own proofs and for the crates above. ExactLaws, ItemLaws and RoundLaws are what a reader looks at.
+pub mod WholeLaws
+pub mod FrameLaws
+pub mod ReadLaws
+pub mod ShapeLaws
+pub mod SoundLaws
+pub mod CompleteLaws
+pub mod ExactLaws
+pub mod LayLaws
+pub mod ReachLaws
+pub mod ItemLaws
+pub mod WalkLaws
+pub mod BackLaws
+pub mod PieceLaws
+pub mod PutLaws
+pub mod CutLaws
+pub mod HashLaws
+pub mod WriteLaws
+pub mod OfferLaws
+pub mod WidthLaws
+pub mod SliceLaws
+pub mod FilterLaws
+pub mod RoundLaws

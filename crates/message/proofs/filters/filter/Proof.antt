@@ -1,0 +1,104 @@
+-- `filters::filter` meets its contract: each early answer is the definition's at the test that failed, and behind them the slices are put.
+-- Assumes nothing.
+use borrow.Author.Needs.{needs}
+use Rattle.bucket.specs.Columns.{columns}
+use Rattle.bucket.proofs.TestLaws.{test-refused, test-granted}
+use Rattle.filter.proofs.FilledLaws.{wide-of}
+use Rattle.filter.proofs.PartLaws.{range-sound}
+use Rattle.message.proofs.FilterLaws.{filter-not-counts, filter-out-of-range, filter-short-columns, filter-short-buffer, filter-put, filter-written}
+use Rattle.message.proofs.filters.filter.Statement.{statement}
+use Rattle.message.proofs.filters.filter.Tie as tie
+
+are-counts-requires : tie.Need-are-counts-requires
+are-counts-requires c κs = search needs
+
+returns : tie.Need-returns
+returns c =
+    let a = c .before .before .before .before .before .args in
+    let cols = columns (a .ids .now) (a .hashes .now) (a .counts .now) in
+    filter-not-counts (a .size) (a .salt) cols (a .at) (a .out .now) (test-refused (c .before .are-counts .ensures) (c .if1 .taken))
+
+in-range-requires : tie.Need-in-range-requires
+in-range-requires c κs = search needs
+
+returns-2 : tie.Need-returns-2
+returns-2 c =
+    let a = c .before .before .before .before .before .before .before .args in
+    let cols = columns (a .ids .now) (a .hashes .now) (a .counts .now) in
+    filter-out-of-range (a .size) (a .salt) cols (a .at) (a .out .now) (test-granted (c .before .before .before .are-counts .ensures) (c .before .before .if1 .left)) (test-refused (c .before .in-range .ensures) (c .if2 .taken))
+
+has-room-requires : tie.Need-has-room-requires
+has-room-requires c κs = search needs
+
+returns-3 : tie.Need-returns-3
+returns-3 c =
+    let a = c .before .before .before .before .before .before .before .before .before .args in
+    let cols = columns (a .ids .now) (a .hashes .now) (a .counts .now) in
+    filter-short-columns (a .size) (a .salt) cols (a .at) (a .out .now) (test-granted (c .before .before .before .before .before .are-counts .ensures) (c .before .before .before .before .if1 .left)) (test-granted (c .before .before .before .in-range .ensures) (c .before .before .if2 .left)) (test-refused (c .before .has-room .ensures) (c .if3 .taken))
+
+width-for-requires : tie.Need-width-for-requires
+width-for-requires c κs =
+    let a = c .before .before .before .before .before .before .before .before .before .args in
+    let wide = wide-of (a .size) (columns (a .ids .now) (a .hashes .now) (a .counts .now)) (test-granted (c .before .has-room .ensures) (c .if3 .left)) in
+    (wide .counts, test-granted (c .before .before .before .before .before .are-counts .ensures) (c .before .before .before .before .if1 .left))
+
+filter-bytes-requires : tie.Need-filter-bytes-requires
+filter-bytes-requires c κs =
+    let a = c .before .before .before .before .before .before .before .before .before .before .args in
+    range-sound (a .size) (a .salt) (test-granted (c .before .before .before .before .in-range .ensures) (c .before .before .before .if2 .left)) .most
+
+has-room-requires-2 : tie.Need-has-room-requires-2
+has-room-requires-2 c κs = search needs
+
+returns-4 : tie.Need-returns-4
+returns-4 c =
+    let a = c .before .before .before .before .before .before .before .before .before .before .before .before .before .args in
+    let cols = columns (a .ids .now) (a .hashes .now) (a .counts .now) in
+    filter-short-buffer (a .size) (a .salt) cols (a .at) (a .out .now)
+    (test-granted (c .before .before .before .before .before .before .before .before .before .are-counts .ensures) (c .before .before .before .before .before .before .before .before .if1 .left))
+    (test-granted (c .before .before .before .before .before .before .before .in-range .ensures) (c .before .before .before .before .before .before .if2 .left))
+    (test-granted (c .before .before .before .before .before .has-room .ensures) (c .before .before .before .before .if3 .left))
+    (c .before .before .before .width-for .ensures) (c .before .before .filter-bytes .ensures) (test-refused (c .before .has-room2 .ensures) (c .if4 .taken))
+
+put-filter-requires : tie.Need-put-filter-requires
+put-filter-requires c κs =
+    let a = c .before .before .before .before .before .before .before .before .before .before .before .before .before .before .args in
+    let cols = columns (a .ids .now) (a .hashes .now) (a .counts .now) in
+    filter-put (a .size) (a .salt) cols (a .at) (a .out .now)
+    (test-granted (c .before .before .before .before .before .before .before .before .before .before .are-counts .ensures) (c .before .before .before .before .before .before .before .before .before .if1 .left))
+    (test-granted (c .before .before .before .before .before .before .before .before .in-range .ensures) (c .before .before .before .before .before .before .before .if2 .left))
+    (test-granted (c .before .before .before .before .before .before .has-room .ensures) (c .before .before .before .before .before .if3 .left))
+    (c .before .before .before .before .width-for .ensures) (c .before .before .before .filter-bytes .ensures) (test-granted (c .before .before .has-room2 .ensures) (c .before .if4 .left))
+
+same-length : tie.Need-same-length
+same-length c = search needs
+
+returns-5 : tie.Need-returns-5
+returns-5 c =
+    let a = c .before .before .before .before .before .before .before .before .before .before .before .before .before .before .before .before .before .args in
+    let cols = columns (a .ids .now) (a .hashes .now) (a .counts .now) in
+    let put = c .before .before .put-filter in
+    filter-written (a .size) (a .salt) cols (a .at) (a .out .now)
+    (test-granted (c .before .before .before .before .before .before .before .before .before .before .before .before .before .are-counts .ensures) (c .before .before .before .before .before .before .before .before .before .before .before .before .if1 .left))
+    (test-granted (c .before .before .before .before .before .before .before .before .before .before .before .in-range .ensures) (c .before .before .before .before .before .before .before .before .before .before .if2 .left))
+    (test-granted (c .before .before .before .before .before .before .before .before .before .has-room .ensures) (c .before .before .before .before .before .before .before .before .if3 .left))
+    (c .before .before .before .before .before .before .before .width-for .ensures) (c .before .before .before .before .before .before .filter-bytes .ensures) (test-granted (c .before .before .before .before .before .has-room2 .ensures) (c .before .before .before .before .if4 .left))
+    (put .ensures .0) (put .ensures .1)
+
+pub filter-spec : {M : Type 1} → statement M
+filter-spec =
+    tie.close
+    (tie.spec
+    are-counts-requires
+    returns
+    in-range-requires
+    returns-2
+    has-room-requires
+    returns-3
+    width-for-requires
+    filter-bytes-requires
+    has-room-requires-2
+    returns-4
+    put-filter-requires
+    same-length
+    returns-5)

@@ -1,0 +1,40 @@
+-- `items::content` meets its contract: what stands behind the first 4 bytes, or nothing where there are no 4. Assumes nothing.
+use mathlib.Core.Path.{sym}
+use Prim.Native.Nat.{_-_}
+use native.Mathlib.Omega.{arith}
+use lib.ListN.{length, drop, length-drop, drop-of-length-le}
+use lib.Seq.{take-all}
+use borrow.Author.Needs.{needs}
+use Rattle.message.proofs.items.content.Statement.{statement}
+use Rattle.message.proofs.items.content.Tie as tie
+
+slice-aggregate-result : tie.Need-slice-aggregate-result
+slice-aggregate-result c = search needs
+
+returns : tie.Need-returns
+returns c = sym (drop-of-length-le (c .before .before .args .s .now) {i = 4} (omega arith))
+
+sub-result : tie.Need-sub-result
+sub-result c = search needs
+
+part-result-start : tie.Need-part-result-start
+part-result-start c = search needs
+
+part-result-end : tie.Need-part-result-end
+part-result-end c = search needs
+
+returns-2 : tie.Need-returns-2
+returns-2 c =
+    let s = c .before .before .args .s .now in
+    take-all (length s - 4) (drop 4 s) (omega (arith, length-drop 4 s))
+
+pub content-spec : {M : Type 1} → statement M
+content-spec =
+    tie.close
+    (tie.spec
+    slice-aggregate-result
+    returns
+    sub-result
+    part-result-start
+    part-result-end
+    returns-2)

@@ -1,0 +1,38 @@
+-- `items::hashsum_at` meets its contract: the HASHSUMs are numbers of 4 bytes behind the IDSUMs, so each fits in 32 bits. Assumes nothing.
+use Prim.Native.Nat.{_+_, _*_}
+use native.Mathlib.Omega.{arith}
+use borrow.Author.Tests.{le-leb, lt-leb, le-ltb, lt-ltb}
+use Rattle.message.specs.Items.{hashsumAt}
+use Rattle.message.proofs.ReachLaws.{number-below}
+use borrow.Author.Needs.{needs}
+use Rattle.message.proofs.items.hashsum_at.Statement.{statement}
+use Rattle.message.proofs.items.hashsum_at.Tie as tie
+
+returns : tie.Need-returns
+unfolding hashsumAt
+returns c = rw (lt-leb _ _ (c .if1 .taken))
+
+returns-2 : tie.Need-returns-2
+unfolding hashsumAt
+returns-2 c = rw (le-leb _ _ (c .before .if1 .left), le-ltb _ _ (c .if2 .taken))
+
+mul-item-at : tie.Need-mul-item-at
+mul-item-at c = search needs
+
+add-item-at : tie.Need-add-item-at
+add-item-at c = search needs
+
+item-at-requires : tie.Need-item-at-requires
+item-at-requires c κs = search needs
+
+cast-result : tie.Need-cast-result
+cast-result c = let a = c .before .before .before .before .args in omega (arith, c .item-at .ensures, number-below 4 (16 + 8 * a .n) (a .s .now) (a .i))
+
+returns-3 : tie.Need-returns-3
+unfolding hashsumAt
+returns-3 c = rw (le-leb _ _ (c .before .before .if1 .left), lt-ltb _ _ (c .before .if2 .left)) (c .item-at .ensures)
+
+pub hashsum-at-spec : {M : Type 1} → statement M
+hashsum-at-spec =
+    tie.close
+    (tie.spec returns returns-2 mul-item-at add-item-at item-at-requires cast-result returns-3)

@@ -1,0 +1,80 @@
+-- `message::laying::lay_ids` meets its contract. The invariant: the first j numbers lie over the column from the position on. The measure is what
+-- is left of them. Assumes nothing.
+use Prim.Native.Nat.{_-_, _*_, _≤_}
+use native.Mathlib.Omega.{arith}
+use lib.ListN.{take}
+use borrow.Author.Needs.{needs}
+use Rattle.bucket.specs.Digits.{unpacked}
+use Rattle.bucket.specs.Lists.{part}
+use Rattle.bucket.proofs.OverLaws.{Laid, laid-start}
+use Rattle.message.proofs.LayLaws.{numbers-next, numbers-end}
+use Rattle.message.proofs.laying.lay_ids.Statement.{statement}
+use Rattle.message.proofs.laying.lay_ids.Tie as tie
+
+abbrev Inv-loop : tie.InvT-loop
+Inv-loop s at n ids₀ from j₀ ids j = (j ≤ n) × Laid from (take j (unpacked 64 n (part at (8 * n) s))) ids₀ ids
+
+abbrev μ-loop : tie.MeasureT-loop
+μ-loop s at n ids₀ from j₀ ids j = n - j
+
+loop-holds : tie.Need-loop-holds Inv-loop μ-loop
+loop-holds c =
+    let a = c .before .before .args in
+    (omega arith, laid-start (a .from) (a .ids .now))
+
+mul-number-at : tie.Need-mul-number-at Inv-loop μ-loop
+mul-number-at c = search needs
+
+add-number-at : tie.Need-add-number-at Inv-loop μ-loop
+add-number-at c = search needs
+
+number-at-requires : tie.Need-number-at-requires Inv-loop μ-loop
+number-at-requires c κs = search needs
+
+add-ids : tie.Need-add-ids Inv-loop μ-loop
+add-ids c = search needs
+
+mul-ids : tie.Need-mul-ids Inv-loop μ-loop
+mul-ids c = search needs
+
+slice-write-ids : tie.Need-slice-write-ids Inv-loop μ-loop
+slice-write-ids c = omega (arith, c .before .before .loop .inv .1 .same)
+
+add-j : tie.Need-add-j Inv-loop μ-loop
+add-j c = search needs
+
+loop-less : tie.Need-loop-less Inv-loop μ-loop
+loop-less c = search needs
+
+loop-again : tie.Need-loop-again Inv-loop μ-loop
+loop-again c =
+    let a = c .before .before .before .before .before .args in
+    let l = c .before .before .loop in
+    (omega arith, numbers-next 8 (a .n) (a .at) (a .s .now) (a .from) (a .ids .now) (c .number-at .result) (l .inv .1) (c .number-at .ensures) (omega arith) (omega arith) (omega arith))
+
+same-length : tie.Need-same-length Inv-loop μ-loop
+same-length c = c .before .loop .inv .1 .same
+
+returns : tie.Need-returns Inv-loop μ-loop
+returns c =
+    let a = c .before .before .before .before .args in
+    numbers-end 8 (a .n) (a .at) (a .s .now) (a .from) (a .ids .now) (c .before .loop .j) (c .before .loop .inv .1) (omega arith)
+
+pub lay-ids-spec : {M : Type 1} → statement M
+lay-ids-spec =
+    tie.close
+    (tie.spec
+    Inv-loop
+    μ-loop
+    loop-holds
+    mul-number-at
+    add-number-at
+    number-at-requires
+    add-ids
+    mul-ids
+    slice-write-ids
+    add-j
+    loop-less
+    loop-again
+    same-length
+    returns)

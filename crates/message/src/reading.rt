@@ -1,0 +1,142 @@
+// One message read: its kind and numbers, or malformed.
+ghost use mathlib.Core.Path.{_≡_};
+ghost use Prim.Native.Nat.{_≤_};
+ghost use Rattle.message.specs.Reading.{field, hashesFit, parse, parseInquiry, parseSlice, sliceFits, sliceHead};
+use crate::kinds::Message;
+
+// The whole of s read as exactly one message.
+pub fn read(s: &[u8]) -> Message
+    ensures { λ r. ⌜ r ≡ parse (now (s .entry)) ⌝ }
+{
+    if s.len() < 4 {
+        return Message::Malformed;
+    }
+    if bucket::bytes::number_at(s, 0, 2) != s.len() as u64 {
+        return Message::Malformed;
+    }
+    let kind = word_at(s, 2, 2);
+    if (kind == 565) | (kind == 567) {
+        return read_slice(s, kind);
+    }
+    if kind == 561 {
+        return read_inquiry(s);
+    }
+    if kind == 562 {
+        if hashes_fit(s.len()) {
+            return Message::Offer {
+                count: s.len() / 64,
+            };
+        }
+        return Message::Malformed;
+    }
+    if kind == 560 {
+        if hashes_fit(s.len()) {
+            return Message::Demand {
+                count: s.len() / 64,
+            };
+        }
+        return Message::Malformed;
+    }
+    if kind == 566 {
+        if s.len() < 5 {
+            return Message::Malformed;
+        }
+        return Message::Element {
+            length: s.len() - 4,
+        };
+    }
+    if kind == 568 {
+        if s.len() == 68 {
+            return Message::Done;
+        }
+        return Message::Malformed;
+    }
+    Message::Malformed
+}
+
+fn read_slice(s: &[u8], kind: u32) -> Message
+    ensures { λ r. ⌜ r ≡ parseSlice kind (now (s .entry)) ⌝ }
+{
+    if s.len() < 16 {
+        return Message::Malformed;
+    }
+    let size = word_at(s, 4, 4);
+    let offset = word_at(s, 8, 4);
+    let salt = word_at(s, 12, 2);
+    let width = word_at(s, 14, 2);
+    if !slice_fits(kind, size, offset, salt, width, s.len()) {
+        return Message::Malformed;
+    }
+    let n = crate::slices::in_slice(size, offset);
+    if !bucket::packing::spare_is_zero(s, 16 + 12 * n, n, width) {
+        return Message::Malformed;
+    }
+    slice_head(kind, size, offset, salt, width)
+}
+
+fn slice_fits(kind: u32, size: u32, offset: u32, salt: u32, width: u32, len: usize) -> bool
+    ensures { λ r. ⌜ r ≡ sliceFits kind size offset salt width len ⌝ }
+{
+    let n = crate::slices::in_slice(size, offset);
+    (37 <= size)
+        & (size <= 4096)
+        & ((offset == 0) | (offset == 2520))
+        & (offset < size)
+        & (salt < 64)
+        & (1 <= width)
+        & (width <= 32)
+        & (kind == crate::slices::slice_type(size, offset))
+        & (len == crate::slices::slice_bytes(width, n))
+}
+
+fn slice_head(kind: u32, size: u32, offset: u32, salt: u32, width: u32) -> Message
+    ensures { λ r. ⌜ r ≡ sliceHead kind size offset salt width ⌝ }
+{
+    let count = crate::slices::in_slice(size, offset);
+    if kind == 567 {
+        return Message::IbfLast {
+            size,
+            offset,
+            salt,
+            width,
+            count,
+        };
+    }
+    Message::Ibf {
+        size,
+        offset,
+        salt,
+        width,
+        count,
+    }
+}
+
+fn read_inquiry(s: &[u8]) -> Message
+    ensures { λ r. ⌜ r ≡ parseInquiry (now (s .entry)) ⌝ }
+{
+    if s.len() < 16 {
+        return Message::Malformed;
+    }
+    let salt = word_at(s, 4, 4);
+    if (s.len() % 8 == 0) & (salt < 64) {
+        return Message::Inquiry {
+            salt,
+            count: (s.len() - 8) / 8,
+        };
+    }
+    Message::Malformed
+}
+
+fn hashes_fit(len: usize) -> bool
+    ensures { λ r. ⌜ r ≡ hashesFit len ⌝ }
+{
+    (68 <= len) & (len % 64 == 4)
+}
+
+// A field of at most four bytes.
+pub(crate) fn word_at(s: &[u8], at: usize, k: usize) -> u32
+    requires { ⌜ k ≤ 4 ⌝ }
+    ensures { λ r. ⌜ r ≡ field k at (now (s .entry)) ⌝ }
+{
+    bucket::bytes::number_at(s, at, k) as u32
+}

@@ -1,0 +1,88 @@
+// A buffer of several messages end to end, walked message by message.
+ghost use mathlib.Core.Path.{_≡_};
+ghost use Rattle.message.specs.Walking.{cursor, walkAt, stepOf, walkNumbers};
+use crate::kinds::Message;
+use crate::kinds::Numbers;
+
+// A position in a buffer.
+pub struct Cursor {
+    pub at: usize,
+}
+
+// What stands at a position.
+pub enum Walked {
+    // a message from start up to the next cursor
+    Found {
+        message: Message,
+        start: usize,
+        next: Cursor,
+    },
+    // no message: the walk ends here
+    Broken {
+        start: usize,
+    },
+    // the end of the buffer
+    End,
+}
+
+impl Cursor {
+    pub fn new() -> Cursor
+        ensures { λ r. ⌜ r ≡ cursor 0 ⌝ }
+    {
+        Cursor { at: 0 }
+    }
+
+    // The message at the cursor.
+    pub fn step(self, s: &[u8]) -> Walked
+        ensures { λ r. ⌜ r ≡ walkAt (now (s .entry)) (self .at) ⌝ }
+    {
+        walk_at(s, self.at)
+    }
+}
+
+// The message at a position of a buffer.
+pub fn walk_at(s: &[u8], at: usize) -> Walked
+    ensures { λ r. ⌜ r ≡ walkAt (now (s .entry)) at ⌝ }
+{
+    if s.len() <= at {
+        return Walked::End;
+    }
+    let size = bucket::bytes::number_at(s, at, 2) as usize;
+    let left = s.len() - at;
+    if left < size {
+        return Walked::Broken { start: at };
+    }
+    let end = at + size;
+    let message = crate::reading::read(&s[at..end]);
+    step_of(message, at, end)
+}
+
+// Only a message hands out a further position.
+fn step_of(message: Message, start: usize, next: usize) -> Walked
+    ensures { λ r. ⌜ r ≡ stepOf message start next ⌝ }
+{
+    if let Message::Malformed = message {
+        return Walked::Broken { start };
+    }
+    Walked::Found {
+        message,
+        start,
+        next: Cursor { at: next },
+    }
+}
+
+// The same as numbers, for C.
+pub fn numbers_at(s: &[u8], at: usize) -> Numbers
+    ensures { λ r. ⌜ r ≡ walkNumbers (walkAt (now (s .entry)) at) at ⌝ }
+{
+    let w = walk_at(s, at);
+    match w {
+        Walked::Found {
+            message,
+            start,
+            next,
+        } => crate::kinds::message_numbers(message, start, next.at),
+        Walked::Broken { start } => crate::kinds::message_numbers(Message::Malformed, start, start),
+        Walked::End => crate::kinds::numbered(1, 0, 0, 0, 0, 0, at, at),
+    }
+}
