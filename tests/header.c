@@ -161,6 +161,19 @@ static void expect_filter_messages(void)
     expect("filter, nowhere then", w.next, 0);
 }
 
+/* The sizes of document 01: 37 buckets at width 2, and 4,096 at width 4. */
+static void expect_sizes(void)
+{
+    memset(ids, 0, sizeof ids);
+    memset(hashes, 0, sizeof hashes);
+    memset(counts, 0, sizeof counts);
+    counts[36] = 3;
+    expect("37 buckets at width 2", write_filter(sizeof buffer, 37, 0).next, 470);
+    counts[36] = 8;
+    expect("4,096 buckets at width 4", write_filter(sizeof buffer, 4096, 0).next, 31516 + 19716);
+    expect("the first slice", tandawire_message_at(buffer, sizeof buffer, 0).next, 31516);
+}
+
 static void expect_messages(void)
 {
     static uint8_t content[TANDAWIRE_MOST_CONTENT + 1];
@@ -188,6 +201,7 @@ static void expect_messages(void)
     expect_message("DONE", bare(TANDAWIRE_DONE, TANDAWIRE_DONE_BYTES), TANDAWIRE_DONE, 0, 0, 0, 0, 1, 0, TANDAWIRE_DONE_BYTES);
     expect("DONE of 4 bytes", bare(TANDAWIRE_DONE, 4).kind, TANDAWIRE_MALFORMED);
     expect_filter_messages();
+    expect_sizes();
 }
 
 int main(void)

@@ -12,7 +12,14 @@ pub fn number_at(s: &[u8], at: usize, k: usize) -> u64
     if s.len() <= at {
         return 0;
     }
-    joined_at(s, at, crate::least(crate::least(8, k), s.len() - at))
+    let left = s.len() - at;
+    // Apart from the rest, so that a number of k known bytes is compiled to one load.
+    if k <= 8 {
+        if k <= left {
+            return joined_at(s, at, k);
+        }
+    }
+    joined_at(s, at, crate::least(crate::least(8, k), left))
 }
 
 // The k low bytes of x from a position on. Nothing is written where k is above eight or the bytes do not fit.

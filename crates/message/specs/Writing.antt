@@ -10,7 +10,8 @@
 --   inquiryCall ..      the writers, each with its refusals in the order in which they are tried
 --   leftBy w            the same with the answer as numbers, for C
 --
--- Laws (proofs/BackLaws): what was written is read back.
+-- Laws (proofs/RoundLaws): a writer's answer is read back, message by message; (proofs/PieceLaws): the pieces are the list, and each is in range;
+-- (proofs/WidthLaws): width-smallest.
 -- Assumes nothing.
 use mathlib.Core.Bool.{Bool, _&&_, cond}
 use mathlib.Core.List.{List, [], _∷_, _++_, map}

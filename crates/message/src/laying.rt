@@ -82,7 +82,7 @@ fn lay_hashes(s: &[u8], at: usize, n: usize, hashes: &mut [u32], from: usize)
 {
     let mut j: usize = 0;
     while j < n {
-        hashes[from + j] = crate::reading::word_at(s, at + 4 * j, 4);
+        hashes[from + j] = crate::fields::word_at(s, at + 4 * j, 4);
         j += 1;
     }
 }

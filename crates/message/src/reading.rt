@@ -1,7 +1,6 @@
 // One message read: its kind and numbers, or malformed.
 ghost use mathlib.Core.Path.{_≡_};
-ghost use Prim.Native.Nat.{_≤_};
-ghost use Rattle.message.specs.Reading.{field, hashesFit, parse, parseInquiry, parseSlice, sliceFits, sliceHead};
+ghost use Rattle.message.specs.Reading.{hashesFit, parse, parseInquiry, parseSlice, sliceFits, sliceHead};
 use crate::kinds::Message;
 
 // The whole of s read as exactly one message.
@@ -14,7 +13,7 @@ pub fn read(s: &[u8]) -> Message
     if bucket::bytes::number_at(s, 0, 2) != s.len() as u64 {
         return Message::Malformed;
     }
-    let kind = word_at(s, 2, 2);
+    let kind = crate::fields::word_at(s, 2, 2);
     if (kind == 565) | (kind == 567) {
         return read_slice(s, kind);
     }
@@ -60,10 +59,10 @@ fn read_slice(s: &[u8], kind: u32) -> Message
     if s.len() < 16 {
         return Message::Malformed;
     }
-    let size = word_at(s, 4, 4);
-    let offset = word_at(s, 8, 4);
-    let salt = word_at(s, 12, 2);
-    let width = word_at(s, 14, 2);
+    let size = crate::fields::word_at(s, 4, 4);
+    let offset = crate::fields::word_at(s, 8, 4);
+    let salt = crate::fields::word_at(s, 12, 2);
+    let width = crate::fields::word_at(s, 14, 2);
     if !slice_fits(kind, size, offset, salt, width, s.len()) {
         return Message::Malformed;
     }
@@ -117,7 +116,7 @@ fn read_inquiry(s: &[u8]) -> Message
     if s.len() < 16 {
         return Message::Malformed;
     }
-    let salt = word_at(s, 4, 4);
+    let salt = crate::fields::word_at(s, 4, 4);
     if (s.len() % 8 == 0) & (salt < 64) {
         return Message::Inquiry {
             salt,
@@ -131,12 +130,4 @@ fn hashes_fit(len: usize) -> bool
     ensures { λ r. ⌜ r ≡ hashesFit len ⌝ }
 {
     (68 <= len) & (len % 64 == 4)
-}
-
-// A field of at most four bytes.
-pub(crate) fn word_at(s: &[u8], at: usize, k: usize) -> u32
-    requires { ⌜ k ≤ 4 ⌝ }
-    ensures { λ r. ⌜ r ≡ field k at (now (s .entry)) ⌝ }
-{
-    bucket::bytes::number_at(s, at, k) as u32
 }

@@ -15,14 +15,8 @@ returns c =
     let a = c .before .before .args in
     sym (ap (joined 8) (part-past (a .at) (min 8 (a .k)) (a .s .now) (omega arith)))
 
-least-requires : tie.Need-least-requires
-least-requires c κs = search needs
-
-sub-least : tie.Need-sub-least
-sub-least c = search needs
-
-least-requires-2 : tie.Need-least-requires-2
-least-requires-2 c κs = search needs
+sub-left : tie.Need-sub-left
+sub-left c = search needs
 
 joined-at-requires : tie.Need-joined-at-requires
 joined-at-requires c κs = search needs
@@ -30,9 +24,31 @@ joined-at-requires c κs = search needs
 returns-2 : tie.Need-returns-2
 returns-2 c =
     let a = c .before .before .before .before .before .args in
-    c .joined-at .ensures ∙ ap (joined 8) (part-min (a .at) (min 8 (a .k)) (c .before .least2 .result) (a .s .now) (omega arith))
+    c .joined-at .ensures ∙ ap (joined 8) (part-min (a .at) (min 8 (a .k)) (a .k) (a .s .now) (omega arith))
+
+least-requires : tie.Need-least-requires
+least-requires c κs = search needs
+
+least-requires-2 : tie.Need-least-requires-2
+least-requires-2 c κs = search needs
+
+joined-at-requires-2 : tie.Need-joined-at-requires-2
+joined-at-requires-2 c κs = search needs
+
+returns-3 : tie.Need-returns-3
+returns-3 c =
+    let a = c .before .before .before .before .before .before .args in
+    c .joined-at2 .ensures ∙ ap (joined 8) (part-min (a .at) (min 8 (a .k)) (c .before .least2 .result) (a .s .now) (omega arith))
 
 pub number-at-spec : {M : Type 1} → statement M
 number-at-spec =
     tie.close
-    (tie.spec returns least-requires sub-least least-requires-2 joined-at-requires returns-2)
+    (tie.spec
+    returns
+    sub-left
+    joined-at-requires
+    returns-2
+    least-requires
+    least-requires-2
+    joined-at-requires-2
+    returns-3)

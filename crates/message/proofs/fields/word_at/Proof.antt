@@ -1,4 +1,4 @@
--- `message::reading::word_at` meets its contract: at most four bytes hold a number below 2^32. Assumes nothing.
+-- `message::fields::word_at` meets its contract: at most four bytes hold a number below 2^32. Assumes nothing.
 use mathlib.Core.Path.{ap, _∙_}
 use Prim.Native.Nat.{ℕ, _*_, min}
 use native.Mathlib.Nat.{min-eq-right}
@@ -7,8 +7,8 @@ use lib.Pow.{pow-mono}
 use Rattle.message.specs.Reading.{field}
 use Rattle.message.proofs.ReadLaws.{field-lt}
 use borrow.Author.Needs.{needs}
-use Rattle.message.proofs.reading.word_at.Statement.{statement}
-use Rattle.message.proofs.reading.word_at.Tie as tie
+use Rattle.message.proofs.fields.word_at.Statement.{statement}
+use Rattle.message.proofs.fields.word_at.Tie as tie
 
 number-at-requires : tie.Need-number-at-requires
 number-at-requires c κs = search needs
