@@ -24,7 +24,8 @@ use Rattle.filter.specs.Calls.{hasRoom}
 use Rattle.filter.proofs.FilledLaws.{wide-of}
 use Rattle.message.specs.declared.kinds.Message.{Message}
 use Rattle.message.specs.declared.kinds.Message.the-variants.{Ibf, IbfLast}
-use Rattle.message.specs.Laying.{laid, isSlice, sliceEnd, layRefusal, lay, bucketsLaid, layBuckets, layAs, layCall}
+use Rattle.message.specs.Laying.{laid, isSlice, sliceEnd, layRefusal, lay, layAs, layCall}
+use Rattle.message.specs.Putting.{bucketsLaid, layBuckets}
 use Rattle.message.specs.Reading.{field, parse, content}
 use Rattle.message.proofs.ShapeLaws.{Sliced, sliced-takes}
 use Rattle.message.proofs.WholeLaws.{item-there}

@@ -9,15 +9,13 @@
 -- Assumes nothing.
 use mathlib.Core.Bool.{Bool, true, false, cond}
 use mathlib.Core.List.{List, [], _∷_, map}
-use Prim.Native.Nat.{ℕ, _+_, _*_}
+use Prim.Native.Nat.{ℕ, _+_}
 use lib.Dec.{eqb}
 use lib.IntN.{pos}
 use Rattle.bucket.specs.Columns.{Columns, columns}
-use Rattle.bucket.specs.Digits.{unpacked}
-use Rattle.bucket.specs.Lists.{over, part}
-use Rattle.bucket.specs.Packing.{countersAt}
+use Rattle.bucket.specs.Lists.{over}
 use Rattle.filter.specs.declared.answers.Refusal.{Refusal}
-use Rattle.filter.specs.declared.answers.Refusal.the-variants.{None, Room, Malformed}
+use Rattle.filter.specs.declared.answers.Refusal.the-variants.{Room, Malformed}
 use Rattle.filter.specs.Answers.{refusalNumber, firstOf}
 use Rattle.filter.specs.Calls.{hasRoom, Build, built}
 use Rattle.message.specs.declared.kinds.Message.{Message}
@@ -64,18 +62,6 @@ pub record Lay : Type 0 where
 
 abbrev pub lay : Refusal → Columns → Lay
 lay r c = record { refusal = r; columns = c }
-
--- the columns with the n buckets that stand in the bytes laid into them, as refusal 2 allows
-abbrev pub bucketsLaid : ℕ → ℕ → ℕ → List ℕ → Columns → Columns
-bucketsLaid offset width n bs c =
-    columns
-    (over offset (unpacked 64 n (part 16 (8 * n) bs)) (c .idsums))
-    (over offset (unpacked 32 n (part (16 + 8 * n) (4 * n) bs)) (c .hashsums))
-    (over offset (map pos (countersAt width n (16 + 12 * n) bs)) (c .counts))
-
-unfoldable pub layBuckets : ℕ → ℕ → ℕ → List ℕ → Columns → Lay
-layBuckets offset width n bs c =
-    cond (hasRoom (offset + n) c) (lay None (bucketsLaid offset width n bs c)) (lay Room c)
 
 unfoldable pub layAs : Message → List ℕ → Columns → Lay
 layAs m bs c =

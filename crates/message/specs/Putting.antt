@@ -1,4 +1,4 @@
--- What the private functions that put messages into a buffer say of their steps. Nothing that a public contract cites.
+-- What the private functions that put messages into a buffer, and lay slices into columns, say of their steps. Nothing that a public contract cites.
 --
 --   endToEnd say ps         the bytes that say makes of each piece, one after the other
 --   framedHashes t hs       the bytes of a message of type t with hashes
@@ -6,17 +6,23 @@
 --   headOf ..               the sixteen bytes before a slice's columns
 --   filterBytes w size      the bytes of a whole filter
 --   SlicePut, FilterPut     what a slice, a filter can be put on
+--   layBuckets ..           the buckets that stand in a message's bytes laid into columns, as refusal 2 allows
 --
 -- Assumes nothing.
 use mathlib.Core.Path.{_≡_}
 use mathlib.Core.Bool.{true, cond}
-use mathlib.Core.List.{List, [], _∷_, _++_}
+use mathlib.Core.List.{List, [], _∷_, _++_, map}
 use Prim.Native.Nat.{ℕ, _+_, _*_, _≤_}
 use lib.Dec.{ltb}
+use lib.IntN.{pos}
 use lib.ListN.{length, take}
-use Rattle.bucket.specs.Columns.{Columns}
-use Rattle.bucket.specs.Digits.{packed}
-use Rattle.bucket.specs.Packing.{fitsIn}
+use Rattle.bucket.specs.Columns.{Columns, columns}
+use Rattle.bucket.specs.Digits.{packed, unpacked}
+use Rattle.bucket.specs.Lists.{over, part}
+use Rattle.bucket.specs.Packing.{countersAt, fitsIn}
+use Rattle.filter.specs.declared.answers.Refusal.the-variants.{None, Room}
+use Rattle.filter.specs.Calls.{hasRoom}
+use Rattle.message.specs.Laying.{Lay, lay}
 use Rattle.message.specs.Layout.{framed, inSlice, sliceBytes}
 use Rattle.message.specs.Writing.{messages}
 
@@ -58,3 +64,14 @@ pub record FilterPut (size width : ℕ) (c : Columns) (out : List ℕ) (at : ℕ
   pub counts-there : size ≤ length (c .counts)
   pub counts-fit : fitsIn width (take size (c .counts)) ≡ true
   pub room : at + filterBytes width size ≤ length out
+
+abbrev pub bucketsLaid : ℕ → ℕ → ℕ → List ℕ → Columns → Columns
+bucketsLaid offset width n bs c =
+    columns
+    (over offset (unpacked 64 n (part 16 (8 * n) bs)) (c .idsums))
+    (over offset (unpacked 32 n (part (16 + 8 * n) (4 * n) bs)) (c .hashsums))
+    (over offset (map pos (countersAt width n (16 + 12 * n) bs)) (c .counts))
+
+unfoldable pub layBuckets : ℕ → ℕ → ℕ → List ℕ → Columns → Lay
+layBuckets offset width n bs c =
+    cond (hasRoom (offset + n) c) (lay None (bucketsLaid offset width n bs c)) (lay Room c)

@@ -9,6 +9,7 @@ ghost use Rattle.filter.specs.Calls.{areCounts};
 ghost use Rattle.message.specs.Writing.{write, filterCall, largest, widthFor};
 ghost use Rattle.message.specs.Putting.{filterBytes};
 use crate::kinds::Wrote;
+use crate::slices::SECOND;
 use filter::answers::Refusal;
 
 // The filter in the first size places of three columns, from a position of a lent buffer, at the smallest width for all of it; answers the next
@@ -78,8 +79,8 @@ fn filter_bytes(width: u32, size: u32) -> usize
     ensures { λ r. ⌜ r ≡ filterBytes width size ⌝ }
 {
     let first = crate::slices::slice_bytes(width, crate::slices::in_slice(size, 0));
-    if 2520 < size {
-        return first + crate::slices::slice_bytes(width, crate::slices::in_slice(size, 2520));
+    if SECOND < size {
+        return first + crate::slices::slice_bytes(width, crate::slices::in_slice(size, SECOND));
     }
     first
 }

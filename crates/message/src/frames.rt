@@ -1,6 +1,5 @@
 // One message put into a lent buffer, where there is room for it.
 ghost use mathlib.Core.Path.{_≡_};
-ghost use mathlib.Core.List.{[], _∷_};
 ghost use Prim.Native.Nat.{_+_, _*_, _≤_};
 ghost use lib.ListN.{length};
 ghost use Rattle.bucket.specs.Columns.{columns};
@@ -8,6 +7,7 @@ ghost use Rattle.bucket.specs.Lists.{over, part};
 ghost use Rattle.message.specs.Layout.{inquiry, layout, framed, inSlice, sliceBytes};
 ghost use Rattle.message.specs.Writing.{sliceAt, layouts, slicesOf};
 ghost use Rattle.message.specs.Putting.{headOf, SlicePut, FilterPut, filterBytes};
+use crate::slices::SECOND;
 
 // MSG SIZE and MSG TYPE before bytes that are copied.
 pub(crate) fn put_framed(kind: u32, bytes: &[u8], from: usize, k: usize, out: &mut [u8], at: usize)
@@ -23,7 +23,7 @@ pub(crate) fn put_inquiry(ids: &[u64], from: usize, n: usize, salt: u32, out: &m
     requires { ⌜ (from + n ≤ length (now ids)) × (at + 8 + 8 * n ≤ length (now out)) ⌝ }
     ensures { λ _. ⌜ now (out .exit) ≡ over at (layout (inquiry salt (part from n (now (ids .entry))))) (now (out .entry)) ⌝ }
 {
-    crate::copying::put_pair(out, at, 2, (8 + 8 * n) as u64, 561);
+    crate::copying::put_pair(out, at, 2, (8 + 8 * n) as u64, crate::kinds::INQUIRY as u64);
     bucket::bytes::put_number(out, at + 4, 4, salt as u64);
     crate::copying::put_ids(ids, from, n, out, at + 8);
 }
@@ -90,8 +90,8 @@ pub(crate) fn put_filter(
         × (now (out .exit) ≡ over at (layouts (slicesOf size salt width (columns (now (ids .entry)) (now (hashes .entry)) (now (counts .entry))))) (now (out .entry))) ⌝ }
 {
     let next = put_slice(ids, hashes, counts, size, 0, salt, width, out, at);
-    if 2520 < size {
-        return put_slice(ids, hashes, counts, size, 2520, salt, width, out, next);
+    if SECOND < size {
+        return put_slice(ids, hashes, counts, size, SECOND, salt, width, out, next);
     }
     next
 }

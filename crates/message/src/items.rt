@@ -24,7 +24,7 @@ pub fn idsum_at(s: &[u8], n: usize, i: usize) -> u64
 pub fn hashsum_at(s: &[u8], n: usize, i: usize) -> u32
     ensures { λ r. ⌜ r ≡ hashsumAt n (now (s .entry)) i ⌝ }
 {
-    if 2520 < n {
+    if crate::slices::MOST_BUCKETS < n {
         return 0;
     }
     if n <= i {
@@ -37,7 +37,7 @@ pub fn hashsum_at(s: &[u8], n: usize, i: usize) -> u32
 pub fn counter_at(s: &[u8], n: usize, width: u32, i: usize) -> u32
     ensures { λ r. ⌜ r ≡ counterOf n width (now (s .entry)) i ⌝ }
 {
-    if 2520 < n {
+    if crate::slices::MOST_BUCKETS < n {
         return 0;
     }
     bucket::packing::counter_at(s, 16 + 12 * n, n, width, i)

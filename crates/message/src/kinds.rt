@@ -4,6 +4,21 @@ ghost use Rattle.message.specs.Reading.{numbered, numbersOf};
 ghost use Rattle.message.specs.Writing.{writtenOf};
 use filter::answers::Refusal;
 
+// MSG TYPE: the numbers registered in the GANA section of the set union draft (document 01, "Messages").
+pub const DEMAND: u32 = 560;
+
+pub const INQUIRY: u32 = 561;
+
+pub const OFFER: u32 = 562;
+
+pub const IBF: u32 = 565;
+
+pub const ELEMENT: u32 = 566;
+
+pub const IBF_LAST: u32 = 567;
+
+pub const DONE: u32 = 568;
+
 // The kind and numbers of a message. Its items stay in the bytes and are read by number (items).
 pub enum Message {
     // a slice of a filter that does not reach its end
@@ -77,19 +92,19 @@ pub fn message_numbers(m: Message, start: usize, next: usize) -> Numbers
             salt,
             width,
             count,
-        } => numbered(565, size, offset, salt, width, count, start, next),
+        } => numbered(IBF, size, offset, salt, width, count, start, next),
         Message::IbfLast {
             size,
             offset,
             salt,
             width,
             count,
-        } => numbered(567, size, offset, salt, width, count, start, next),
-        Message::Inquiry { salt, count } => numbered(561, 0, 0, salt, 0, count, start, next),
-        Message::Offer { count } => numbered(562, 0, 0, 0, 0, count, start, next),
-        Message::Demand { count } => numbered(560, 0, 0, 0, 0, count, start, next),
-        Message::Element { length } => numbered(566, 0, 0, 0, 0, length, start, next),
-        Message::Done => numbered(568, 0, 0, 0, 0, 1, start, next),
+        } => numbered(IBF_LAST, size, offset, salt, width, count, start, next),
+        Message::Inquiry { salt, count } => numbered(INQUIRY, 0, 0, salt, 0, count, start, next),
+        Message::Offer { count } => numbered(OFFER, 0, 0, 0, 0, count, start, next),
+        Message::Demand { count } => numbered(DEMAND, 0, 0, 0, 0, count, start, next),
+        Message::Element { length } => numbered(ELEMENT, 0, 0, 0, 0, length, start, next),
+        Message::Done => numbered(DONE, 0, 0, 0, 0, 1, start, next),
         Message::Malformed => numbered(0, 0, 0, 0, 0, 0, start, start),
     }
 }

@@ -1,15 +1,14 @@
 // A slice of a filter laid into three lent columns.
 ghost use mathlib.Core.Path.{_≡_};
 ghost use mathlib.Core.Bool.{true};
-ghost use mathlib.Core.List.{map};
 ghost use Prim.Native.Nat.{_+_, _*_, _≤_};
-ghost use lib.IntN.{pos};
 ghost use lib.ListN.{length};
 ghost use Rattle.bucket.specs.Columns.{columns};
 ghost use Rattle.bucket.specs.Digits.{unpacked};
 ghost use Rattle.bucket.specs.Lists.{over, part};
 ghost use Rattle.bucket.specs.Packing.{takes};
-ghost use Rattle.message.specs.Laying.{lay, layCall, layBuckets};
+ghost use Rattle.message.specs.Laying.{lay, layCall};
+ghost use Rattle.message.specs.Putting.{layBuckets};
 use crate::kinds::Message;
 use filter::answers::Refusal;
 

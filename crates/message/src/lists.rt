@@ -4,9 +4,14 @@ ghost use Prim.Native.Nat.{_+_, _*_, _%_, _≤_};
 ghost use lib.ListN.{length};
 ghost use Rattle.bucket.specs.Lists.{over};
 ghost use Rattle.filter.specs.Table.{hashesOf};
-ghost use Rattle.message.specs.Layout.{inquiry, layout, framed};
+ghost use Rattle.message.specs.Layout.{inquiry, layout};
 ghost use Rattle.message.specs.Writing.{pieces};
 ghost use Rattle.message.specs.Putting.{cutBytes, endToEnd, framedHashes};
+
+// The most IDs of an INQUIRY, and the bytes of the most hashes of an OFFER or DEMAND, 1,023.
+const MOST_IDS: usize = 8190;
+
+const MOST_BYTES: usize = 65472;
 
 // IDs as INQUIRY messages.
 pub(crate) fn put_inquiries(ids: &[u64], salt: u32, out: &mut [u8], at: usize)
@@ -16,7 +21,7 @@ pub(crate) fn put_inquiries(ids: &[u64], salt: u32, out: &mut [u8], at: usize)
     let mut p = at;
     let mut i: usize = 0;
     while i < ids.len() {
-        let n = bucket::least(8190, ids.len() - i);
+        let n = bucket::least(MOST_IDS, ids.len() - i);
         crate::frames::put_inquiry(ids, i, n, salt, out, p);
         p += 8 + 8 * n;
         i += n;
@@ -31,7 +36,7 @@ pub(crate) fn put_offers(bytes: &[u8], kind: u32, out: &mut [u8], at: usize)
     let mut p = at;
     let mut i: usize = 0;
     while i < bytes.len() {
-        let k = bucket::least(65472, bytes.len() - i);
+        let k = bucket::least(MOST_BYTES, bytes.len() - i);
         crate::frames::put_framed(kind, bytes, i, k, out, p);
         p += 4 + k;
         i += k;

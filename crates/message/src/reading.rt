@@ -1,7 +1,14 @@
 // One message read: its kind and numbers, or malformed.
 ghost use mathlib.Core.Path.{_≡_};
 ghost use Rattle.message.specs.Reading.{hashesFit, parse, parseInquiry, parseSlice, sliceFits, sliceHead};
+use crate::kinds::DEMAND;
+use crate::kinds::DONE;
+use crate::kinds::ELEMENT;
+use crate::kinds::IBF;
+use crate::kinds::IBF_LAST;
+use crate::kinds::INQUIRY;
 use crate::kinds::Message;
+use crate::kinds::OFFER;
 
 // The whole of s read as exactly one message.
 pub fn read(s: &[u8]) -> Message
@@ -14,13 +21,13 @@ pub fn read(s: &[u8]) -> Message
         return Message::Malformed;
     }
     let kind = crate::fields::word_at(s, 2, 2);
-    if (kind == 565) | (kind == 567) {
+    if (kind == IBF) | (kind == IBF_LAST) {
         return read_slice(s, kind);
     }
-    if kind == 561 {
+    if kind == INQUIRY {
         return read_inquiry(s);
     }
-    if kind == 562 {
+    if kind == OFFER {
         if hashes_fit(s.len()) {
             return Message::Offer {
                 count: s.len() / 64,
@@ -28,7 +35,7 @@ pub fn read(s: &[u8]) -> Message
         }
         return Message::Malformed;
     }
-    if kind == 560 {
+    if kind == DEMAND {
         if hashes_fit(s.len()) {
             return Message::Demand {
                 count: s.len() / 64,
@@ -36,7 +43,7 @@ pub fn read(s: &[u8]) -> Message
         }
         return Message::Malformed;
     }
-    if kind == 566 {
+    if kind == ELEMENT {
         if s.len() < 5 {
             return Message::Malformed;
         }
@@ -44,7 +51,7 @@ pub fn read(s: &[u8]) -> Message
             length: s.len() - 4,
         };
     }
-    if kind == 568 {
+    if kind == DONE {
         if s.len() == 68 {
             return Message::Done;
         }
@@ -79,7 +86,7 @@ fn slice_fits(kind: u32, size: u32, offset: u32, salt: u32, width: u32, len: usi
     let n = crate::slices::in_slice(size, offset);
     (37 <= size)
         & (size <= 4096)
-        & ((offset == 0) | (offset == 2520))
+        & ((offset == 0) | (offset == crate::slices::SECOND))
         & (offset < size)
         & (salt < 64)
         & (1 <= width)
@@ -92,7 +99,7 @@ fn slice_head(kind: u32, size: u32, offset: u32, salt: u32, width: u32) -> Messa
     ensures { λ r. ⌜ r ≡ sliceHead kind size offset salt width ⌝ }
 {
     let count = crate::slices::in_slice(size, offset);
-    if kind == 567 {
+    if kind == IBF_LAST {
         return Message::IbfLast {
             size,
             offset,

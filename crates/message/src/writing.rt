@@ -1,15 +1,19 @@
 // Messages written from a position of a lent buffer: lists, an element, the end. Each answers the next position, or why it wrote nothing; what is
 // before and behind is unchanged.
 ghost use mathlib.Core.Path.{_≡_};
-ghost use mathlib.Core.Bool.{_&&_};
 ghost use Prim.Native.Nat.{_+_, _*_, _≤_, _^_};
 ghost use lib.Dec.{leb};
-ghost use lib.ListN.{length};
-ghost use Rattle.filter.specs.Table.{hashesOf};
 ghost use Rattle.message.specs.Writing.{write, inquiryCall, hashesCall, offersOf, demandsOf, elementCall, doneCall};
 ghost use Rattle.message.specs.Putting.{cutBytes};
+use crate::kinds::DEMAND;
+use crate::kinds::DONE;
+use crate::kinds::ELEMENT;
+use crate::kinds::OFFER;
 use crate::kinds::Wrote;
 use filter::answers::Refusal;
+
+// The longest content of an ELEMENT.
+const MOST_CONTENT: usize = 65531;
 
 // INQUIRY messages for a list of IDs. Refused: a salt out of range, then too little room.
 pub fn inquiry(ids: &[u64], salt: u32, out: &mut [u8], at: usize) -> Wrote
@@ -40,7 +44,7 @@ pub fn offer(hashes: &[u8], out: &mut [u8], at: usize) -> Wrote
     if !has_room(at, total, out.len()) {
         return Wrote::Refused { why: Refusal::Room };
     }
-    crate::lists::put_offers(hashes, 562, out, at);
+    crate::lists::put_offers(hashes, OFFER, out, at);
     Wrote::To { next: at + total }
 }
 
@@ -55,7 +59,7 @@ pub fn demand(hashes: &[u8], out: &mut [u8], at: usize) -> Wrote
     if !has_room(at, total, out.len()) {
         return Wrote::Refused { why: Refusal::Room };
     }
-    crate::lists::put_offers(hashes, 560, out, at);
+    crate::lists::put_offers(hashes, DEMAND, out, at);
     Wrote::To { next: at + total }
 }
 
@@ -72,12 +76,12 @@ pub fn element(content: &[u8], out: &mut [u8], at: usize) -> Wrote
             why: Refusal::Malformed,
         };
     }
-    if 65531 < n {
+    if MOST_CONTENT < n {
         return Wrote::Refused {
             why: Refusal::Malformed,
         };
     }
-    crate::frames::put_framed(566, content, 0, n, out, at);
+    crate::frames::put_framed(ELEMENT, content, 0, n, out, at);
     Wrote::To { next: at + 4 + n }
 }
 
@@ -91,7 +95,7 @@ pub fn done(check: &[u8], out: &mut [u8], at: usize) -> Wrote
     if !has_room(at, 68, out.len()) {
         return Wrote::Refused { why: Refusal::Room };
     }
-    crate::frames::put_framed(568, check, 0, 64, out, at);
+    crate::frames::put_framed(DONE, check, 0, 64, out, at);
     Wrote::To { next: at + 68 }
 }
 

@@ -21,6 +21,9 @@ mul-put-pair c = search needs
 add-put-pair : tie.Need-add-put-pair
 add-put-pair c = search needs
 
+cast-put-pair : tie.Need-cast-put-pair
+cast-put-pair c = search needs
+
 put-pair-requires : tie.Need-put-pair-requires
 put-pair-requires c κs = search needs
 
@@ -63,6 +66,7 @@ put-inquiry-spec =
     (tie.spec
     mul-put-pair
     add-put-pair
+    cast-put-pair
     put-pair-requires
     add-put-number
     put-number-requires
