@@ -1,8 +1,9 @@
 /* Tandawire: set reconciliation with peers that are not trusted.
  *
  * Two peers each hold a table of elements, known by their SHA-512 hashes. One sends an invertible Bloom filter in place of its list; the
- * other reads the difference off it. This header declares what the library offers so far: building a filter and reading one, estimating
- * beforehand how large the difference is, and the messages that carry a filter and an element.
+ * other reads the difference off it, asks for what it lacks, offers what the first lacks, and both end with the union. This header declares
+ * what the library offers: building a filter and reading one, estimating beforehand how large the difference is, the messages that carry a
+ * filter and an element, and a session: its start on each side, and one step for each message that comes.
  *
  * Every call answers every input. A refusal is a number (TANDAWIRE_REFUSED_..), and each call says below what a refusal leaves behind.
  * The library keeps nothing between calls, allocates nothing and writes only where a call says, so calls on separate memory may run in
@@ -58,13 +59,36 @@ extern "C" {
 #define TANDAWIRE_IBF_LAST 567
 #define TANDAWIRE_DONE 568
 
-/* Refusals. They are tried in the order 1, 3, 2, 4, then 6. */
+/* A session: the least sizes of what is lent to a step, how many swaps an end may make, and the states. */
+#define TANDAWIRE_RECORDS_BYTES 262208
+#define TANDAWIRE_FAR_CHECKSUM 262144
+#define TANDAWIRE_MARKS_BYTES 8192
+#define TANDAWIRE_RECORD_MARKS 4096
+#define TANDAWIRE_SESSION_PLACES 4096
+#define TANDAWIRE_OUT_BYTES 295008
+#define TANDAWIRE_MOST_SWAPS 16
+
+#define TANDAWIRE_EXPECTING_IBF 0
+#define TANDAWIRE_EXPECTING_IBF_LAST 1
+#define TANDAWIRE_ACTIVE_DECODING 2
+#define TANDAWIRE_PASSIVE_DECODING 3
+#define TANDAWIRE_FINISH_CLOSING 4
+#define TANDAWIRE_FINISH_WAITING 5
+#define TANDAWIRE_FINISHED 6
+#define TANDAWIRE_ABORTED 7
+
+/* Refusals. They are tried in the order 1, 3, 2, 5 (a session that has ended), 4, 5, 7, 10, 9, 6, 8. */
 #define TANDAWIRE_REFUSED_NONE 0
-#define TANDAWIRE_REFUSED_FORM 1  /* the table is none, or a COUNT is outside its range; everything unchanged */
+#define TANDAWIRE_REFUSED_FORM 1  /* the table is none, a COUNT is outside its range, or a session's numbers or ledger break their form; everything unchanged */
 #define TANDAWIRE_REFUSED_ROOM 2  /* a column, list or buffer is too short for the call; everything unchanged */
 #define TANDAWIRE_REFUSED_RANGE 3 /* the size or the salt is outside its range; everything unchanged */
 #define TANDAWIRE_REFUSED_MALFORMED 4 /* no message of the kind asked for, or a content that no message can hold; everything unchanged */
-#define TANDAWIRE_REFUSED_FALSE 6 /* the reading is false; columns and lists are zero in their first size places */
+#define TANDAWIRE_REFUSED_OUT_OF_TURN 5 /* a message that may not come in this state; the session is aborted, or has ended already and stays */
+#define TANDAWIRE_REFUSED_FALSE 6 /* the reading is false; columns and lists are zero in their first size places; a session swaps and goes on */
+#define TANDAWIRE_REFUSED_BREACH 7 /* the message breaks a rule on inquiries, offers, demands or elements; the session is aborted */
+#define TANDAWIRE_REFUSED_CHECKSUM 8 /* the checksums of the two ends differ; the session is aborted */
+#define TANDAWIRE_REFUSED_SWAPS 9 /* a 17th swap; the session is aborted, columns and lists are zero in the places of the filter read */
+#define TANDAWIRE_REFUSED_LIMIT 10 /* elements held and wanted would pass 4,096; the session is aborted, after a reading columns and lists are zero as with 9 */
 
 /* Makes the filter of a table at a size and a salt, in the first size places of each column. What was there is overwritten; what lies behind
  * is not touched. Answers 0, or 1, 3 or 2. */
@@ -188,6 +212,72 @@ uint32_t tandawire_filter_lay(const uint8_t *message, size_t message_length,
                               uint64_t *ids, size_t ids_length,
                               uint32_t *hashes, size_t hashes_length,
                               int64_t *counts, size_t counts_length);
+
+/* What a caller keeps of a session beside the memory that it lends: handed to each step, and taken from its answer for the next. */
+typedef struct tandawire_numbers {
+    uint32_t state;    /* TANDAWIRE_EXPECTING_IBF and so on */
+    uint32_t first;    /* 1 from the entry to Passive Decoding until a message has come */
+    uint32_t size;     /* of the last filter sent or received */
+    uint32_t salt;
+    uint32_t width;    /* of the slice laid */
+    uint32_t swaps;    /* made by this end */
+    uint32_t done;     /* 1 when our DONE went */
+    uint32_t demanded; /* hashes demanded: that many stand at the start of records */
+    uint32_t inquired; /* IDs inquired: that many stand at the start of inquired */
+} tandawire_numbers;
+
+/* What a start or a step answers. Send the first sent bytes of out to the far end as they are, whatever the refusal is. After a DEMAND there are due bare
+ * hashes of 64 bytes at the start of out instead: send the element of each as an ELEMENT, in this order. */
+typedef struct tandawire_stepped {
+    uint32_t refusal;
+    size_t sent;
+    size_t due;
+    tandawire_numbers next;
+} tandawire_stepped;
+
+/* Starts a session that waits for the far end's filter. The table stays as it is, and is lent to every step, until the session has ended: elements that
+ * come are kept in records, not in it. marks has TANDAWIRE_MARKS_BYTES bytes; those of the table are made zero. Answers 0, or 1 or 2; a refusal changes
+ * nothing, and its numbers are of no session. */
+tandawire_stepped tandawire_start_receiver(const uint8_t *table, size_t table_length,
+                                           uint8_t *marks, size_t marks_length);
+
+/* Starts a session that sends its filter first, at a size and a salt of the caller's: its messages are the first sent bytes of out, which has
+ * TANDAWIRE_OUT_BYTES bytes. The rest as above. Answers 0, or 1, 3 or 2. */
+tandawire_stepped tandawire_start_sender(const uint8_t *table, size_t table_length,
+                                         uint32_t size, uint32_t salt,
+                                         uint8_t *marks, size_t marks_length,
+                                         uint8_t *out, size_t out_length);
+
+/* One message taken. Every slice is lent for the call, must have at least the size that stands beside it, and must come back to the next step as the last one
+ * left it: the ledger (records, marks, inquired), the columns and the lists are the session's memory. Their content before the start does not matter, but for
+ * what a start has set.
+ *
+ *   records   TANDAWIRE_RECORDS_BYTES: the hashes demanded, ascending; from TANDAWIRE_FAR_CHECKSUM on the far end's checksum, while it is needed
+ *   marks     TANDAWIRE_MARKS_BYTES: a byte for each element of the table, and from TANDAWIRE_RECORD_MARKS on one for each hash demanded. Bits: 1 asked by the far
+ *             end, 2 offered to it, 4 demanded by it, 8 (hashes demanded) met
+ *   inquired  TANDAWIRE_SESSION_PLACES: the IDs inquired, ascending
+ *   ids, hashes, counts, ours, theirs   TANDAWIRE_SESSION_PLACES each
+ *   hash      TANDAWIRE_HASH_BYTES: for an ELEMENT the SHA-512 of its content, worked out by the caller; else anything
+ *   message   exactly one message (tandawire_message_at walks a buffer of several)
+ *   out       TANDAWIRE_OUT_BYTES; what lies behind what is written is not touched
+ *
+ * Elements held are those of the table, and the hashes demanded whose mark has bit 8. In TANDAWIRE_FINISHED both ends hold the same.
+ * Refusals 1 and 2 change nothing, not even the state; 5 in a session that has ended likewise. 4, 5, 7, 8, 9 and 10 abort the session and leave the ledger
+ * as it was; 9, and 10 after a reading, make columns and lists zero in the places of the filter read. With 6 the session swaps and goes on: what was sent is
+ * its own filter. */
+tandawire_stepped tandawire_step(tandawire_numbers numbers,
+                                 const uint8_t *table, size_t table_length,
+                                 uint8_t *records, size_t records_length,
+                                 uint8_t *marks, size_t marks_length,
+                                 uint64_t *inquired, size_t inquired_length,
+                                 uint64_t *ids, size_t ids_length,
+                                 uint32_t *hashes, size_t hashes_length,
+                                 int64_t *counts, size_t counts_length,
+                                 uint64_t *ours, size_t ours_length,
+                                 uint64_t *theirs, size_t theirs_length,
+                                 const uint8_t *hash, size_t hash_length,
+                                 const uint8_t *message, size_t message_length,
+                                 uint8_t *out, size_t out_length);
 
 #ifdef __cplusplus
 }

@@ -1,6 +1,6 @@
 //! The library's exported functions behind safe wrappers: the only unsafe code here,
-//! with that of the layers above in library/filters.rs, library/estimator.rs and
-//! library/messages.rs.
+//! with that of the layers above in library/filters.rs, library/estimator.rs,
+//! library/messages.rs and library/session.rs.
 //!
 //! Each wrapper lends whole slices by pointer and length, and the library keeps to them;
 //! the comparisons lend them out of larger buffers, to see that it does.
@@ -8,6 +8,7 @@
 pub mod estimator;
 pub mod filters;
 pub mod messages;
+pub mod session;
 
 use crate::model::{Bucket, Columns};
 

@@ -22,6 +22,7 @@ mod quick;
 mod random;
 mod reading;
 mod refused;
+mod sessions;
 mod sets;
 mod tables;
 
@@ -32,7 +33,7 @@ use std::fmt::Debug;
 use std::process::exit;
 
 /// Fewer comparisons than this mean that something was left out.
-const LEAST: u64 = 200_000;
+const LEAST: u64 = 500_000;
 
 /// As do fewer readings of filters (calls that refusals 1 to 3 do not stop), in all or of an end.
 const LEAST_READINGS: u64 = 50_000;
@@ -48,6 +49,7 @@ pub struct Tally {
     ends: Vec<(End, u64)>,
     outcomes: Vec<Outcome>,
     messages: messages::Counts,
+    sessions: sessions::Counts,
 }
 
 impl Tally {
@@ -132,8 +134,12 @@ fn around(text: &str, at: usize) -> String {
     text.chars().skip(at.saturating_sub(16)).take(32).collect()
 }
 
+/// Compares everything; with `sessions` as argument the sessions alone, which costs less time.
 fn main() {
-    differ::must_be_there();
+    let sessions_alone = std::env::args().nth(1).as_deref() == Some("sessions");
+    if !sessions_alone {
+        differ::must_be_there();
+    }
     let checked = known::check_model()
         .and_then(|()| known_filters::check_model())
         .and_then(|()| estimates::check_model())
@@ -148,22 +154,46 @@ fn main() {
         ends: Vec::new(),
         outcomes: Vec::new(),
         messages: messages::Counts::default(),
+        sessions: sessions::Counts::default(),
     };
-    numbers::compare(&mut tally);
-    packing::compare(&mut tally);
-    reading::compare(&mut tally);
-    buckets::compare(&mut tally);
-    tables::compare(&mut tally);
-    building::compare(&mut tally);
-    refused::compare(&mut tally);
-    honest::compare(&mut tally);
-    malicious::compare(&mut tally);
-    crafted::compare(&mut tally);
-    estimates::compare(&mut tally);
-    messages::compare(&mut tally);
-    differ::compare(&mut tally);
+    if !sessions_alone {
+        compare_lower_layers(&mut tally);
+    }
+    sessions::compare(&mut tally);
 
     tally.tell_last();
+    if !sessions_alone {
+        lower_layers_must_be_enough(&tally);
+    }
+    if !tally.sessions.are_enough() {
+        println!("more steps of sessions are asked for, or more of an answer");
+        exit(1);
+    }
+    let total: u64 = tally.subjects.iter().map(|(_, compared)| compared).sum();
+    if total < LEAST && !sessions_alone {
+        println!("only {total} comparisons, {LEAST} are asked for");
+        exit(1);
+    }
+    println!("{total} comparisons, no difference");
+}
+
+fn compare_lower_layers(tally: &mut Tally) {
+    numbers::compare(tally);
+    packing::compare(tally);
+    reading::compare(tally);
+    buckets::compare(tally);
+    tables::compare(tally);
+    building::compare(tally);
+    refused::compare(tally);
+    honest::compare(tally);
+    malicious::compare(tally);
+    crafted::compare(tally);
+    estimates::compare(tally);
+    messages::compare(tally);
+    differ::compare(tally);
+}
+
+fn lower_layers_must_be_enough(tally: &Tally) {
     let readings: u64 = tally.ends.iter().map(|(_, readings)| readings).sum();
     for (end, readings) in &tally.ends {
         println!("readings that end {end:?}: {readings}");
@@ -182,10 +212,4 @@ fn main() {
         println!("more messages are asked for, or more of a kind or of a refusal");
         exit(1);
     }
-    let total: u64 = tally.subjects.iter().map(|(_, compared)| compared).sum();
-    if total < LEAST {
-        println!("only {total} comparisons, {LEAST} are asked for");
-        exit(1);
-    }
-    println!("{total} comparisons, no difference");
 }

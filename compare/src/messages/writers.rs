@@ -87,7 +87,7 @@ pub fn inquiry(ids: &[u64], salt: u32, out: &mut [u8], at: usize) -> Written {
 }
 
 /// Likewise, of hashes end to end.
-fn listed(hashes: &[u8], kind: fn(Vec<u8>) -> Message) -> Vec<Message> {
+pub fn listed(hashes: &[u8], kind: fn(Vec<u8>) -> Message) -> Vec<Message> {
     let parts = hashes.chunks(MOST_LISTED * HASH).map(<[u8]>::to_vec);
     parts.map(kind).collect()
 }

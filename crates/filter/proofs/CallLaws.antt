@@ -253,6 +253,14 @@ module _ (size : ℕ) {q : Outcome} {c₀ : Columns} (o₀ t₀ : List ℕ) {fin
 
 -- ---- the call as a whole
 
+-- what the test of room says, as clearing asks it
+pub clear-ready : (size : ℕ) (c : Columns) (o th : List ℕ) → hasRoom size c && (leb size (length o) && leb size (length th)) ≡ true
+    → Wide size c × (size ≤ length o) × (size ≤ length th)
+clear-ready size c o th h =
+    let r = and-eq-true-iff (hasRoom size c) (leb size (length o) && leb size (length th)) .0 h in
+    let l = and-eq-true-iff (leb size (length o)) (leb size (length th)) .0 (r .1) in
+    (wide-of size c (r .0), leb-true _ _ (l .0), leb-true _ _ (l .1))
+
 module _ (derive : ℕ → ℕ) (size salt : ℕ) (t : List ℕ) (c : Columns) (o th : List ℕ) where
   pub read-ends : isTable derive t && areCounts size (c .counts) ≡ true → inRange size salt ≡ true
       → hasRoom size c && (leb size (length o) && leb size (length th)) ≡ true
@@ -266,10 +274,9 @@ module _ (derive : ℕ → ℕ) (size salt : ℕ) (t : List ℕ) (c : Columns) (
       → hasRoom size c && (leb size (length o) && leb size (length th)) ≡ true → Ready size salt t c o th
   read-ready x y z =
       let f = and-eq-true-iff (isTable firstEight t) (areCounts size (c .counts)) .0 x in
-      let r = and-eq-true-iff (hasRoom size c) (leb size (length o) && leb size (length th)) .0 z in
-      let l = and-eq-true-iff (leb size (length o)) (leb size (length th)) .0 (r .1) in
+      let r = clear-ready size c o th z in
       record {
-        received = record { table = f .0; range = y; counts = f .1; wide = wide-of size c (r .0) };
-        ours-room = leb-true _ _ (l .0);
-        theirs-room = leb-true _ _ (l .1);
+        received = record { table = f .0; range = y; counts = f .1; wide = r .0 };
+        ours-room = r .1;
+        theirs-room = r .2;
       }

@@ -7,6 +7,7 @@
 --   listedInto n l o       the list o with l at its start and zeros behind it up to n
 --   buildCall ..           the filter of a table in three lent columns
 --   readCall ..            ours minus received, peeled
+--   clearCall ..           columns and lists made zero, as a false reading leaves them
 --
 -- Assumes nothing.
 use mathlib.Core.Bool.{Bool, true, false, _&&_, cond}
@@ -124,3 +125,10 @@ readCall derive size salt t c o th =
     cond (eqb n 0)
     (readWith (verdictOf derive size salt t c) size (outcomeOf derive size salt t c) c o th)
     (unread n c o th)
+
+-- "columns and lists all zero", in the first size places; 2 where one is shorter
+unfoldable pub clearCall : ℕ → Columns → List ℕ → List ℕ → Read
+clearCall size c o th =
+    cond (hasRoom size c && (leb size (length o) && leb size (length th)))
+    (unread 0 (filled size (λ i. 𝟎) c) (listedInto size [] o) (listedInto size [] th))
+    (unread (refusalNumber Room) c o th)

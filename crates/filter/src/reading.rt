@@ -8,12 +8,13 @@ ghost use lib.ListN.{length};
 ghost use Rattle.bucket.specs.Bucket.{𝟎};
 ghost use Rattle.bucket.specs.Columns.{columns, view};
 ghost use Rattle.bucket.specs.Crc.{crcTables};
-ghost use Rattle.filter.specs.Answers.{answerOf};
+ghost use Rattle.filter.specs.Answers.{refusalNumber, answerOf};
 ghost use Rattle.filter.specs.Table.{firstEight, idsOf, isTable};
 ghost use Rattle.filter.specs.Filter.{filterRule, difference};
-ghost use Rattle.filter.specs.Calls.{areCounts, hasRoom, filled, listedInto, answered, outcomeOf, readCall};
+ghost use Rattle.filter.specs.Calls.{areCounts, hasRoom, filled, listedInto, answered, unread, outcomeOf, readCall, clearCall};
 ghost use Rattle.filter.specs.Steps.{Ready, Received, Wide, Peels};
 use crate::answers::Reading;
+use crate::answers::Refusal;
 use crate::answers::Verdict;
 use crate::peeling::Peeled;
 
@@ -54,6 +55,26 @@ pub fn read(
             Reading::Untrue
         }
     }
+}
+
+// Makes columns and lists zero in the first size places, as a false reading leaves them. Refused: a column or list shorter than size; then nothing
+// is changed.
+pub fn clear(
+    ids: &mut [u64],
+    hashes: &mut [u32],
+    counts: &mut [i64],
+    ours: &mut [u64],
+    theirs: &mut [u64],
+    size: u32,
+) -> Refusal
+    ensures { λ r. ⌜ unread (refusalNumber r) (columns (now (ids .exit)) (now (hashes .exit)) (now (counts .exit))) (now (ours .exit)) (now (theirs .exit))
+        ≡ clearCall size (columns (now (ids .entry)) (now (hashes .entry)) (now (counts .entry))) (now (ours .entry)) (now (theirs .entry)) ⌝ }
+{
+    if !has_all_room(ids, hashes, counts, ours, theirs, size) {
+        return Refusal::Room;
+    }
+    clear_all(ids, hashes, counts, ours, theirs, size as usize);
+    Refusal::None
 }
 
 fn is_well_formed(table: &[u8], counts: &[i64], size: u32) -> bool

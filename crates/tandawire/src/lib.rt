@@ -3,3 +3,4 @@
 pub mod estimators;
 pub mod filters;
 pub mod messages;
+pub mod sessions;

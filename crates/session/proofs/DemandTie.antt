@@ -1,0 +1,202 @@
+-- DEMAND: what the walk over its hashes does to the marks is what the session serves, and its turn is the step. Assumes nothing.
+use mathlib.Core.Path.{_≡_, refl, sym, ap, ap₂, subst, _∙_}
+use mathlib.Core.Bool.{Bool, true, false, not, _&&_, _||_, cond}
+use mathlib.Core.List.{List, [], _∷_}
+use Prim.Native.Nat.{ℕ, _+_, _*_, _≤_}
+use lib.ListN.{length, getD, set, take}
+use borrow.Author.Tests.{not-true}
+use Rattle.bucket.specs.Digits.{packed}
+use Rattle.bucket.specs.Lists.{elem, over}
+use Rattle.bucket.proofs.ListLaws.{elem-cases}
+use Rattle.filter.specs.Table.{firstEight, hashesOf}
+use Rattle.message.specs.Layout.{demand}
+use Rattle.message.specs.Writing.{layouts}
+use Rattle.session.specs.declared.numbers.Numbers.{Numbers}
+use Rattle.session.specs.Sets.{insert, _∪_, all, once}
+use Rattle.session.specs.Grid.{entry}
+use Rattle.session.specs.Session.{Ledger, serving, acts, firstFault, faults, refusal, act, refused}
+use Rattle.session.specs.Calls.{Given, Left, left, answered, tableOf, hashGiven, sessionOf, stepOn}
+use Rattle.session.specs.Moves.{placeOfHash, goAll, Walk, walk, isFine, serveAt, serveOne, serveAll}
+use Rattle.session.specs.Turns.{MarkTurn, markTurn, aborted, onward, demandTurn}
+use Rattle.session.proofs.SetLaws.{_∈_, clash, and-l, and-r, not-in-nil, elem-cons, elem-insert}
+use Rattle.session.proofs.ListLaws.{once-same}
+use Rattle.session.proofs.KeptLaws.{books-serving}
+use Rattle.session.proofs.ActLaws.{serving-cons}
+use Rattle.session.proofs.Sound.{Sound}
+use Rattle.session.proofs.GivenLaws.{given-demanded}
+use Rattle.session.proofs.LaidLaws.{laidMarks}
+use Rattle.session.proofs.PlaceTie.{Ordered, serve-test, serve-set}
+use Rattle.session.proofs.TurnTie.{given-ordered, front-room, front-marks, marks-back, admitted-tie, refused-tie, onward-tie}
+
+-- "hashes offered and not demanded before"
+abbrev servable : Ledger → ℕ → Bool
+servable L h = elem h (L .offered) && not (elem h (L .served))
+
+abbrev areServable : Ledger → List ℕ → Bool
+areServable L hs = all (λ x. elem x (L .offered)) hs && once (L .served) hs
+
+sort-out : (a b c d : Bool) → (a && b) && (c && d) ≡ (a && c) && (b && d)
+sort-out true b true d = refl
+sort-out true true false d = refl
+sort-out true false false d = refl
+sort-out false b c d = refl
+
+-- the first, and the others when it is served
+first-servable : (L : Ledger) (h : ℕ) (hs : List ℕ) → areServable L (h ∷ hs) ≡ servable L h && areServable (serving (h ∷ []) L) hs
+unfolding all once _∪_
+first-servable L h hs =
+    sort-out (elem h (L .offered)) (all (λ x. elem x (L .offered)) hs) (not (elem h (L .served))) (once (h ∷ L .served) hs)
+    ∙ ap (λ (b : Bool). servable L h && (all (λ x. elem x (L .offered)) hs && b))
+    (once-same (h ∷ L .served) (insert h (L .served)) hs (λ y. elem-cons y h (L .served) ∙ sym (elem-insert y h (L .served))))
+
+module _ (derive : ℕ → ℕ) (t M : List ℕ) (room : 8192 ≤ length M) where
+  -- ---- one hash
+
+  module _ (L : Ledger) (o : Ordered derive t L) (h : ℕ) where
+    abbrev place : ℕ
+    place = placeOfHash derive t (L .demanded) h
+
+    by-test : (b : Bool) → servable L h ≡ b
+        → serveOne derive t (L .demanded) h (walk true (laidMarks derive t L M) [])
+        ≡ cond b (walk true (set (laidMarks derive t L M) place (getD (laidMarks derive t L M) place 0 + 4)) []) (walk false (laidMarks derive t L M) [])
+    unfolding serveOne serveAt
+    by-test b e =
+        ap (λ (b : Bool).
+        cond b (walk true (set (laidMarks derive t L M) place (getD (laidMarks derive t L M) place 0 + 4)) []) (walk false (laidMarks derive t L M) []))
+        (serve-test derive t L o M room h ∙ e)
+
+    module _ (e : servable L h ≡ true) where
+      offered : h ∈ L .offered
+      offered = and-l (elem h (L .offered)) (not (elem h (L .served))) e
+
+      serve-new : serveOne derive t (L .demanded) h (walk true (laidMarks derive t L M) []) ≡ walk true (laidMarks derive t (serving (h ∷ []) L) M) []
+      serve-new =
+          by-test true e
+          ∙ ap (λ (ms : List ℕ). walk true ms [])
+          (serve-set derive t L o M room h offered (not-true (elem h (L .served)) (and-r (elem h (L .offered)) (not (elem h (L .served))) e)))
+
+      ordered-serving : Ordered derive t (serving (h ∷ []) L)
+      ordered-serving = record {
+        books =
+            books-serving derive t (h ∷ []) L (λ y k. elem-cases (λ (z : ℕ). z ∈ L .offered) y h [] k offered (λ q. absurd (not-in-nil y q))) (o .books);
+        asc = o .asc;
+        ids = o .ids;
+        knownIds = o .knownIds;
+        few = o .few;
+        knownFew = o .knownFew;
+      }
+
+  -- ---- all
+
+  record Served (L : Ledger) (hs : List ℕ) (w : Walk) : Type 0 where
+    fine : w .fine ≡ areServable L hs
+    laid : areServable L hs ≡ true → w .marks ≡ laidMarks derive t (serving hs L) M
+
+  abbrev walkOver : Ledger → List ℕ → Walk
+  walkOver L hs = goAll isFine (serveOne derive t (L .demanded)) hs (walk true (laidMarks derive t L M) [])
+
+  -- the first of a list of hashes, by its test
+  serve-first : (L : Ledger) (o : Ordered derive t L) (h : ℕ) (hs : List ℕ)
+      → (servable L h ≡ true → Served (serving (h ∷ []) L) hs (walkOver (serving (h ∷ []) L) hs)) → Served L (h ∷ hs) (walkOver L (h ∷ hs))
+  unfolding goAll
+  serve-first L o h hs next = go (servable L h) refl
+    where
+      rest : Walk → Walk
+      rest w = cond (isFine w) (goAll isFine (serveOne derive t (L .demanded)) hs w) w
+
+      start : Walk
+      start = serveOne derive t (L .demanded) h (walk true (laidMarks derive t L M) [])
+
+      go : (b : Bool) → servable L h ≡ b → Served L (h ∷ hs) (rest start)
+      go true e = subst (λ (w : Walk). Served L (h ∷ hs) (rest w)) (sym (serve-new L o h e)) (record {
+        fine = next e .fine ∙ sym one;
+        laid = λ k. next e .laid (sym one ∙ k) ∙ ap (λ (K : Ledger). laidMarks derive t K M) (sym (serving-cons derive t L (o .books) h hs));
+      })
+        where
+          one : areServable L (h ∷ hs) ≡ areServable (serving (h ∷ []) L) hs
+          one = first-servable L h hs ∙ ap (λ (b : Bool). b && areServable (serving (h ∷ []) L) hs) e
+      go false e = subst (λ (w : Walk). Served L (h ∷ hs) (rest w)) (sym (by-test L o h false e)) (record { fine = sym bad; laid = λ k. absurd (clash k bad) })
+        where
+          bad : areServable L (h ∷ hs) ≡ false
+          bad = first-servable L h hs ∙ ap (λ (b : Bool). b && areServable (serving (h ∷ []) L) hs) e
+
+  serve-walk : (hs : List ℕ) (L : Ledger) → Ordered derive t L → Served L hs (walkOver L hs)
+  unfolding goAll all once _∪_
+  serve-walk [] L o = record { fine = refl; laid = λ k. refl }
+  serve-walk (h ∷ hs) L o = serve-first L o h hs (λ e. serve-walk hs (serving (h ∷ []) L) (ordered-serving L o h e))
+
+-- ---- the turn
+
+module _ (G : Given) (s : Sound G) (hs : List ℕ) where
+  abbrev N : Numbers
+  N = G .numbers
+
+  abbrev L : Ledger
+  L = sessionOf firstEight G .ledger
+
+  -- the turn, of its tests and a walk
+  abbrev turnBy : Bool → Bool → Walk → MarkTurn
+  turnBy admits fine w =
+      cond admits
+      (cond fine (markTurn (answered 0 0 (length hs) (onward N)) (over 0 (w .marks) (G .marks)) (over 0 (packed 512 hs) (G .out)))
+      (markTurn (aborted 7 N) (G .marks) (G .out)))
+      (markTurn (aborted 5 N) (G .marks) (G .out))
+
+  abbrev leaves : MarkTurn → Left
+  leaves x = left (x .answer) (G .records) (x .marks) (G .inquired) (G .columns) (G .ours) (G .theirs) (x .out)
+
+  walked : Walk
+  walked = walkOver firstEight (tableOf G) (take 8192 (G .marks)) (front-room G s) L hs
+
+  is-walked : serveAll firstEight (tableOf G) (hashesOf (take (64 * N .demanded) (G .records))) hs (take 8192 (G .marks)) ≡ walked
+  unfolding walked
+  is-walked =
+      ap₂ (λ (k m : List ℕ). serveAll firstEight (tableOf G) k hs m) (sym (given-demanded G s)) (sym (front-marks G s))
+
+  served : Served firstEight (tableOf G) (take 8192 (G .marks)) (front-room G s) L hs walked
+  unfolding walked
+  served = serve-walk firstEight (tableOf G) (take 8192 (G .marks)) (front-room G s) hs L (given-ordered G s)
+
+  refusal-is : refusal firstEight (tableOf G) (hashGiven G) (sessionOf firstEight G) (demand hs)
+      ≡ cond (entry (N .state) 4) (cond (not (all (λ x. elem x (L .offered)) hs) || not (once (L .served) hs)) 7 0) 5
+  unfolding refusal faults firstFault sessionOf
+  refusal-is =
+      ap (λ (b : Bool). cond b (cond (not (all (λ x. elem x (L .offered)) hs) || not (once (L .served) hs)) 7 0) 5) (admitted-tie G s (demand hs) refl)
+
+  refusal-by : (a b : Bool) → entry (N .state) 4 ≡ a → walked .fine ≡ b
+      → refusal firstEight (tableOf G) (hashGiven G) (sessionOf firstEight G) (demand hs) ≡ cond a (cond b 0 7) 5
+  refusal-by a b e g =
+      refusal-is
+      ∙ ap₂ (λ (p : Bool) (n : ℕ). cond p n 5) e (both (all (λ x. elem x (L .offered)) hs) (once (L .served) hs))
+      ∙ ap (λ (q : Bool). cond a (cond q 0 7) 5) (sym (served .fine) ∙ g)
+    where
+      both : (p q : Bool) → _≡_ {A = ℕ} (cond (not p || not q) 7 0) (cond (p && q) 0 7)
+      both true true = refl
+      both true false = refl
+      both false q = refl
+
+  refused-by : (n : ℕ) → refusal firstEight (tableOf G) (hashGiven G) (sessionOf firstEight G) (demand hs) ≡ n → acts n ≡ false
+      → leaves (markTurn (aborted n N) (G .marks) (G .out)) ≡ stepOn firstEight (demand hs) G
+  unfolding refused
+  refused-by n is off = refused-tie G s (demand hs) n is off refl
+
+  acted : walked .fine ≡ true → refusal firstEight (tableOf G) (hashGiven G) (sessionOf firstEight G) (demand hs) ≡ 0
+      → leaves (turnBy true true walked) ≡ stepOn firstEight (demand hs) G
+  unfolding act layouts
+  acted g is =
+      ap (λ (ms : List ℕ). leaves (markTurn (answered 0 0 (length hs) (onward N)) ms (over 0 (packed 512 hs) (G .out))))
+      (ap (λ (ms : List ℕ). over 0 ms (G .marks)) (served .laid (sym (served .fine) ∙ g))
+      ∙ marks-back G s (serving hs L) refl)
+      ∙ onward-tie G s (demand hs) (serving hs L) [] hs refl refl refl is refl
+
+  by-cases : (a b : Bool) → entry (N .state) 4 ≡ a → walked .fine ≡ b → leaves (turnBy a b walked) ≡ stepOn firstEight (demand hs) G
+  by-cases false b e g = refused-by 5 (refusal-by false b e g) refl
+  by-cases true false e g = refused-by 7 (refusal-by true false e g) refl
+  by-cases true true e g = acted g (refusal-by true true e g)
+
+  pub demand-tie :
+      let x = demandTurn N (tableOf G) (hashesOf (take (64 * N .demanded) (G .records))) hs (G .marks) (G .out) in
+      left (x .answer) (G .records) (x .marks) (G .inquired) (G .columns) (G .ours) (G .theirs) (x .out) ≡ stepOn firstEight (demand hs) G
+  unfolding demandTurn
+  demand-tie =
+      ap (λ (w : Walk). leaves (turnBy (entry (N .state) 4) (w .fine) w)) is-walked ∙ by-cases (entry (N .state) 4) (walked .fine) refl refl

@@ -1,0 +1,110 @@
+-- The reading in a session is filter's, and what a complete one lists: held IDs as ours, IDs that are not held as theirs, each once.
+-- Assumes nothing.
+use mathlib.Core.Path.{_≡_, refl, sym, subst, _∙_}
+use mathlib.Core.Bool.{true, not, false≢true}
+use mathlib.Core.List.{List, [], _∷_, reverse}
+use Prim.Native.Nat.{ℕ}
+use lib.Dec.{leb}
+use lib.ListN.{length}
+use borrow.Author.Tests.{not-true}
+use Rattle.bucket.specs.Columns.{Columns, view}
+use Rattle.bucket.specs.Lists.{elem, Distinct}
+use Rattle.bucket.proofs.ListLaws.{elem-cases}
+use Rattle.bucket.proofs.TestLaws.{and-holds}
+use Rattle.filter.specs.declared.answers.Refusal.the-variants.{None}
+use Rattle.filter.specs.declared.answers.Verdict.{Verdict}
+use Rattle.filter.specs.declared.answers.Verdict.the-variants.{Complete, Stuck, False}
+use Rattle.filter.specs.Calls.{inRange, areCounts, hasRoom, readRefusal, Read, readWith, readCall}
+use Rattle.filter.specs.Filter.{Item, ours, theirs, oursOf, theirsOf, Rule, filterRule, difference}
+use Rattle.filter.specs.Peeling.{Outcome, reading, fits, verdict}
+use Rattle.filter.specs.Table.{hashesOf, isTable}
+use Rattle.filter.proofs.GrantedLaws.{granted-read, listed-back}
+use Rattle.filter.proofs.SelectLaws.{elem-reverse, distinct-reverse}
+use Rattle.filter.proofs.SideLaws.{distinct-ours, distinct-theirs}
+use Rattle.filter.proofs.SoundLaws.{verdict-complete, reading-distinct}
+use Rattle.session.specs.Session.{isComplete, oursIn, theirsIn, idsOf, readingAt}
+use Rattle.session.proofs.SetLaws.{_∈_, _⊆_, clash, and-l, and-r, not-in-nil}
+use Rattle.session.proofs.ListLaws.{Apart}
+
+-- what a complete reading lists, against the IDs of the table
+pub record ReadLaw (ids : List ℕ) (r : Read) : Type 0 where
+  pub oursHeld : oursIn r ⊆ ids
+  pub oursOnce : Distinct (oursIn r)
+  pub theirsNew : Apart (theirsIn r) ids
+  pub theirsOnce : Distinct (theirsIn r)
+
+-- ---- "an ID listed as ours is not in our table or one listed as theirs is"
+
+fits-ours : (t : List ℕ) (l : List Item) → fits t l ≡ true → oursOf l ⊆ t
+unfolding fits oursOf
+fits-ours t [] f x e = absurd (not-in-nil x e)
+fits-ours t (ours a ∷ l) f x e =
+    elem-cases (λ (z : ℕ). z ∈ t) x a (oursOf l) e (and-l (elem a t) (fits t l) f) (fits-ours t l (and-r (elem a t) (fits t l) f) x)
+fits-ours t (theirs a ∷ l) f x e = fits-ours t l (and-r (not (elem a t)) (fits t l) f) x e
+
+fits-theirs : (t : List ℕ) (l : List Item) → fits t l ≡ true → Apart (theirsOf l) t
+unfolding fits theirsOf
+fits-theirs t [] f x e = absurd (not-in-nil x e)
+fits-theirs t (ours a ∷ l) f x e = fits-theirs t l (and-r (elem a t) (fits t l) f) x e
+fits-theirs t (theirs a ∷ l) f x e =
+    elem-cases (λ (z : ℕ). z ∈ t → ⊥) x a (theirsOf l) e (λ k. clash k (not-true (elem a t) (and-l (not (elem a t)) (fits t l) f)))
+    (fits-theirs t l (and-r (not (elem a t)) (fits t l) f) x)
+
+module _ (derive : ℕ → ℕ) (t : List ℕ) (size salt : ℕ) (c : Columns) (o th : List ℕ) where
+  pub read-law : isComplete (readingAt derive t size salt c o th) ≡ true → ReadLaw (idsOf derive t) (readingAt derive t size salt c o th)
+  unfolding readingAt readWith
+  read-law whole = go (verdict R (idsOf derive t) r) refl whole
+    where
+      R : Rule
+      R = filterRule size salt
+
+      r : Outcome
+      r = reading R (difference R (idsOf derive t) (view c))
+
+      once : Distinct (Rattle.filter.specs.Filter.ids (r .listed))
+      once = reading-distinct R (difference R (idsOf derive t) (view c))
+
+      listed : fits (idsOf derive t) (r .listed) ≡ true → ReadLaw (idsOf derive t) (readWith Complete size r c o th)
+      listed f =
+          let a : oursIn (readWith Complete size r c o th) ≡ reverse (oursOf (r .listed)) = listed-back size (oursOf (r .listed)) o in
+          let b : theirsIn (readWith Complete size r c o th) ≡ reverse (theirsOf (r .listed)) = listed-back size (theirsOf (r .listed)) th in
+          record {
+            oursHeld = λ x e. fits-ours (idsOf derive t) (r .listed) f x (sym (elem-reverse x (oursOf (r .listed))) ∙ subst (λ (l : List ℕ). x ∈ l) a e);
+            oursOnce = subst Distinct (sym a) (distinct-reverse (oursOf (r .listed)) (distinct-ours (r .listed) once));
+            theirsNew = λ x e. fits-theirs (idsOf derive t) (r .listed) f x (sym (elem-reverse x (theirsOf (r .listed))) ∙ subst (λ (l : List ℕ). x ∈ l) b e);
+            theirsOnce = subst Distinct (sym b) (distinct-reverse (theirsOf (r .listed)) (distinct-theirs (r .listed) once));
+          }
+
+      go : (v : Verdict) → verdict R (idsOf derive t) r ≡ v → isComplete (readWith v size r c o th) ≡ true → ReadLaw (idsOf derive t) (readWith v size r c o th)
+      go Complete e k = listed (unfold verdict in verdict-complete (r .fine) _ (fits (idsOf derive t) (r .listed)) e .2)
+      go Stuck e k = absurd (false≢true k)
+      go False e k = absurd (false≢true k)
+
+  -- a complete reading is no refusal
+  pub complete-clean : isComplete (readingAt derive t size salt c o th) ≡ true → readingAt derive t size salt c o th .answer .refusal ≡ 0
+  unfolding readingAt readWith
+  complete-clean = go (verdict R (idsOf derive t) r) r
+    where
+      R : Rule
+      R = filterRule size salt
+
+      r : Outcome
+      r = reading R (difference R (idsOf derive t) (view c))
+
+      go : (v : Verdict) (r : Outcome) → isComplete (readWith v size r c o th) ≡ true → readWith v size r c o th .answer .refusal ≡ 0
+      go Complete r e = refl
+      go Stuck r e = absurd (false≢true e)
+      go False r e = absurd (false≢true e)
+
+-- ---- the reading is filter's
+
+module _ (derive : ℕ → ℕ) (size salt : ℕ) (bytes : List ℕ) (c : Columns) (o th : List ℕ) where
+  pub granted : isTable derive bytes ≡ true → areCounts size (c .counts) ≡ true → inRange size salt ≡ true → hasRoom size c ≡ true
+      → leb size (length o) ≡ true → leb size (length th) ≡ true → readRefusal derive size salt bytes c o th ≡ None
+  unfolding readRefusal
+  granted a b d e f g = rw (and-holds a b, d, and-holds e (and-holds f g))
+
+  pub reading-granted : readRefusal derive size salt bytes c o th ≡ None
+      → readingAt derive (hashesOf bytes) size salt c o th ≡ readCall derive size salt bytes c o th
+  unfolding readingAt idsOf Rattle.filter.specs.Table.idsOf
+  reading-granted e = sym (granted-read derive size salt bytes c o th e)

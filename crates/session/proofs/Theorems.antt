@@ -1,0 +1,214 @@
+-- What a reader looks for in the session's definition, each under document 01's words. Assumes nothing.
+use mathlib.Core.Path.{_≡_, refl, sym, subst, _∙_}
+use mathlib.Core.Logic.{_≢_, _⊎_, inl, inr}
+use mathlib.Core.Bool.{Bool, true, false, _||_, cond}
+use mathlib.Core.List.{List, [], _∷_, _++_}
+use Prim.Native.Nat.{ℕ, _≤_, _<_, _^_}
+use native.Mathlib.Omega.{arith}
+use lib.Dec.{eqb, leb}
+use lib.ListN.{length}
+use borrow.Author.Tests.{eqb-true, eqb-false}
+use Rattle.bucket.specs.Columns.{Columns, view}
+use Rattle.bucket.specs.Lists.{elem, Distinct}
+use Rattle.filter.specs.declared.answers.Refusal.the-variants.{None}
+use Rattle.filter.specs.Calls.{inRange, areCounts, hasRoom, readRefusal, Read, readCall}
+use Rattle.filter.specs.Filter.{filterRule, filterOf}
+use Rattle.filter.specs.Lists.{minus}
+use Rattle.filter.specs.Stopping.{differing, Clear, Exactly}
+use Rattle.filter.specs.Table.{hashesOf, isTable}
+use Rattle.filter.proofs.Demand3.{complete-trusted, reads-exactly}
+use Rattle.message.specs.Layout.{Content, slice, inquiry, offer, demand, element, done, Good}
+use Rattle.message.specs.Laying.{laid}
+use Rattle.session.specs.Sets.{insert}
+use Rattle.session.specs.Grid.{CLOSING, isLast}
+use Rattle.session.specs.Session.{Ledger, Session, «in», isSlice, unmet, isComplete, oursIn, theirsIn, acts, idsOf, held, readOf, refusal, cleared, halted, refused, step}
+use Rattle.session.specs.Form.{goodNumbers, goodLedger}
+use Rattle.session.proofs.SetLaws.{_⊆_, _∈_, clash, in-insert, Asc}
+use Rattle.session.proofs.BookLaws.{Table, Form, table-of, form-of, of-form}
+use Rattle.session.proofs.GridLaws.{slice-kind, ended-admits}
+use Rattle.session.proofs.FaultLaws.{Ended, refused-ended}
+use Rattle.session.proofs.ReadingLaws.{granted, reading-granted, complete-clean}
+use Rattle.session.proofs.FormKept.{kept-step}
+use Rattle.session.proofs.ChangeLaws.{gained-step, held-insert, held-same, open-step}
+
+-- ---- "Its form: .."
+
+-- every step keeps it
+pub form-kept : (derive : ℕ → ℕ) (t : List ℕ) → Table derive t → (h : ℕ) (s : Session) (c : Content) → Good c → Form derive t s
+    → Form derive t (step derive t h s c .session)
+form-kept derive t g h s c gm f = kept-step derive t g h s c f gm
+
+-- the same by the tests of refusal 1, over a table of bytes
+pub tests-kept : (derive : ℕ → ℕ) (bytes : List ℕ) → isTable derive bytes ≡ true → (h : ℕ) (s : Session) (c : Content) → Good c
+    → goodNumbers s ≡ true → goodLedger derive (hashesOf bytes) s ≡ true
+    → let u = step derive (hashesOf bytes) h s c .session in (goodNumbers u ≡ true) × (goodLedger derive (hashesOf bytes) u ≡ true)
+tests-kept derive bytes e h s c g n l =
+    let t : List ℕ = hashesOf bytes in
+    let table : Table derive t = table-of derive bytes e in
+    of-form derive t (step derive t h s c .session) (table .asc) (form-kept derive t table h s c g (form-of derive t s n l))
+
+module _ (derive : ℕ → ℕ) (t : List ℕ) where
+  -- ---- "Refusal numbers": what is left
+
+  -- every number but 6: the ledger stays, the state is 7, or 6 where it was 6, and nothing is sent
+  pub refusal-leaves : (h : ℕ) (s : Session) (c : Content) → acts (refusal derive t h s c) ≡ false
+      → Ended s (step derive t h s c .session) × (step derive t h s c .sent ≡ []) × (step derive t h s c .due ≡ [])
+  unfolding step
+  refusal-leaves h s c e = rw e (refused-ended derive t (refusal derive t h s c) s c, refl, refl)
+
+  pub refusal-ledger : (n : ℕ) (s : Session) (c : Content) → acts n ≡ false → refused derive t n s c .ledger ≡ s .ledger
+  refusal-ledger n s c e = refused-ended derive t n s c .ledger
+
+  -- "buffers unchanged; in a session, state 7": every number but 9 and 10
+  pub refusal-buffers : (n : ℕ) (s : Session) (c : Content) → eqb n 9 || eqb n 10 ≡ false → refused derive t n s c ≡ halted derive t s
+  unfolding refused
+  refusal-buffers n s (slice size offset salt width ids hashes counts) e = rw e
+  refusal-buffers n s (inquiry salt xs) e = refl
+  refusal-buffers n s (offer hs) e = refl
+  refusal-buffers n s (demand hs) e = refl
+  refusal-buffers n s (element bytes) e = refl
+  refusal-buffers n s (done check) e = refl
+
+  -- 10: "after a reading as 9, else as 4"
+  pub refusal-no-reading : (n : ℕ) (s : Session) (c : Content) → isSlice c ≡ false → refused derive t n s c ≡ halted derive t s
+  unfolding refused
+  refusal-no-reading n s (slice size offset salt width ids hashes counts) k = absurd (clash (slice-kind (isLast size offset)) k)
+  refusal-no-reading n s (inquiry salt xs) k = refl
+  refusal-no-reading n s (offer hs) k = refl
+  refusal-no-reading n s (demand hs) k = refl
+  refusal-no-reading n s (element bytes) k = refl
+  refusal-no-reading n s (done check) k = refl
+
+  -- "state 7, columns and lists all zero, the rest unchanged"
+  pub refusal-cleared : (n : ℕ) (s : Session) (size offset salt width : ℕ) (ids hashes counts : List ℕ) → eqb n 9 || eqb n 10 ≡ true
+      → let c = slice size offset salt width ids hashes counts in
+      refused derive t n s c ≡ cleared derive t s (readOf derive t s c size salt) size
+  unfolding refused
+  refusal-cleared n s size offset salt width ids hashes counts e = rw e
+
+  -- 5: "states 6 and 7 stay"
+  pub ended-stays : (h : ℕ) (s : Session) (c : Content) → 6 ≤ s .state → s .state < 8
+      → (refusal derive t h s c ≡ 5) × (step derive t h s c .session ≡ s)
+  unfolding refusal step
+  ended-stays h s c low high = rw (ended-admits s c low) (refl, refusal-buffers 5 s c refl ∙ same)
+    where
+      stays : (b : Bool) → eqb (s .state) 6 ≡ b → cond b 6 7 ≡ s .state
+      stays true e = sym (eqb-true (s .state) 6 e)
+      stays false e = let ne : s .state ≢ 6 = eqb-false (s .state) 6 e in omega arith
+
+      same : halted derive t s ≡ s
+      same = λ i. record {
+        state = stays (eqb (s .state) 6) refl i;
+        first = s .first;
+        size = s .size;
+        salt = s .salt;
+        width = s .width;
+        swaps = s .swaps;
+        far = s .far;
+        columns = s .columns;
+        ours = s .ours;
+        theirs = s .theirs;
+        ledger = s .ledger;
+      }
+
+  -- ---- "'Held' means in the table or gained."
+
+  -- it only grows, and only by the element that was demanded and unmet
+  pub held-grows : Asc t → (h : ℕ) (s : Session) (c : Content)
+      → let K = step derive t h s c .session .ledger in
+      (held derive t K ≡ held derive t (s .ledger)) ⊎ ((h ∈ unmet (s .ledger)) × (held derive t K ≡ insert h (held derive t (s .ledger))))
+  held-grows at h s c = go (gained-step derive t h s c)
+    where
+      L : Ledger
+      L = s .ledger
+
+      K : Ledger
+      K = step derive t h s c .session .ledger
+
+      go : (K .gained ≡ L .gained) ⊎ ((h ∈ unmet L) × (K .gained ≡ insert h (L .gained)))
+          → (held derive t K ≡ held derive t L) ⊎ ((h ∈ unmet L) × (held derive t K ≡ insert h (held derive t L)))
+      go (inl e) = inl (held-same derive t L K e)
+      go (inr (u, e)) = inr (u, held-insert derive t h L K at e)
+
+  pub held-kept : Asc t → (h : ℕ) (s : Session) (c : Content) → held derive t (s .ledger) ⊆ held derive t (step derive t h s c .session .ledger)
+  held-kept at h s c x k = go (held-grows at h s c)
+    where
+      L : Ledger
+      L = s .ledger
+
+      K : Ledger
+      K = step derive t h s c .session .ledger
+
+      go : (held derive t K ≡ held derive t L) ⊎ ((h ∈ unmet L) × (held derive t K ≡ insert h (held derive t L))) → x ∈ held derive t K
+      go (inl e) = subst (λ (l : List ℕ). x ∈ l) (sym e) k
+      go (inr (u, e)) = subst (λ (l : List ℕ). x ∈ l) (sym e) (in-insert x h (held derive t L) k)
+
+  -- ---- Finish Closing: "then 4 if a demand is unmet" never happens
+
+  -- the session after messages, each with the hash that the caller worked out
+  unfoldable pub after : Session → List (ℕ × Content) → Session
+  after s [] = s
+  after s (m ∷ ms) = after (step derive t (m .0) s (m .1) .session) ms
+
+  abbrev pub AllGood : List (ℕ × Content) → Type 0
+  AllGood [] = Unit {0}
+  AllGood (m ∷ ms) = Good (m .1) × AllGood ms
+
+  pub form-after : Table derive t → (s : Session) (ms : List (ℕ × Content)) → Form derive t s → AllGood ms → Form derive t (after s ms)
+  unfolding after
+  form-after g s [] f a = f
+  form-after g s (m ∷ ms) f a = form-after g (step derive t (m .0) s (m .1) .session) ms (form-kept derive t g (m .0) s (m .1) (a .0) f) (a .1)
+
+  pub never-closing : Table derive t → (s : Session) (ms : List (ℕ × Content)) → Form derive t s → AllGood ms
+      → «in» s CLOSING ≡ false → «in» (after s ms) CLOSING ≡ false
+  unfolding after
+  never-closing g s [] f a o = o
+  never-closing g s (m ∷ ms) f a o =
+      never-closing g (step derive t (m .0) s (m .1) .session) ms (form-kept derive t g (m .0) s (m .1) (a .0) f) (a .1) (open-step derive t (m .0) s (m .1) f o)
+
+-- ---- readings
+
+module _ (derive : ℕ → ℕ) (bytes : List ℕ) (s : Session) (c : Content) (size salt : ℕ) where
+  -- filter's refusals 1 to 3 do not stop it; so it is of every slice that completes a filter, in a session that has its form and its rooms
+  -- (LastLaws, last-granted)
+  abbrev pub Granted : Type 0
+  Granted = readRefusal derive size salt bytes (laid c (s .columns)) (s .ours) (s .theirs) ≡ None
+
+  pub reading-granted-by : isTable derive bytes ≡ true → areCounts size (laid c (s .columns) .counts) ≡ true → inRange size salt ≡ true
+      → hasRoom size (laid c (s .columns)) ≡ true → leb size (length (s .ours)) ≡ true → leb size (length (s .theirs)) ≡ true → Granted
+  reading-granted-by = granted derive size salt bytes (laid c (s .columns)) (s .ours) (s .theirs)
+
+  -- the reading in a session is filter's
+  pub reading-is-filters : Granted
+      → readOf derive (hashesOf bytes) s c size salt ≡ readCall derive size salt bytes (laid c (s .columns)) (s .ours) (s .theirs)
+  reading-is-filters = reading-granted derive size salt bytes (laid c (s .columns)) (s .ours) (s .theirs)
+
+  -- demand 3: "in a session, the reading as it stands before refusal 9 or 10 clears its lists"
+  pub session-trusted : Granted → isComplete (readOf derive (hashesOf bytes) s c size salt) ≡ true → (i : ℕ) → i < size
+      → let r = readOf derive (hashesOf bytes) s c size salt in
+      view (laid c (s .columns)) i ≡ filterOf (filterRule size salt) (minus (idsOf derive (hashesOf bytes)) (oursIn r) ++ theirsIn r) i
+  unfolding idsOf Rattle.filter.specs.Table.idsOf
+  session-trusted g whole i h =
+      subst (λ (r : Read). view cols i ≡ filterOf (filterRule size salt) (minus (idsOf derive (hashesOf bytes)) (oursIn r) ++ theirsIn r) i)
+      (sym same)
+      (complete-trusted derive size salt bytes cols (s .ours) (s .theirs)
+      (subst (λ (r : Read). r .answer .refusal ≡ 0) same (complete-clean derive (hashesOf bytes) size salt cols (s .ours) (s .theirs) whole))
+      (eqb-true _ 1 (subst (λ (r : Read). isComplete r ≡ true) same whole)) i h)
+    where
+      cols : Columns
+      cols = laid c (s .columns)
+
+      same : readOf derive (hashesOf bytes) s c size salt ≡ readCall derive size salt bytes cols (s .ours) (s .theirs)
+      same = reading-is-filters g
+
+  pub session-exact : ((h : ℕ) → h < 2 ^ 512 → derive h < 2 ^ 64) → Granted → (far : List ℕ) → Distinct far → ((a : ℕ) → elem a far ≡ true → a < 2 ^ 64)
+      → ((i : ℕ) → i < size → view (laid c (s .columns)) i ≡ filterOf (filterRule size salt) far i)
+      → Clear (filterRule size salt) (differing (idsOf derive (hashesOf bytes)) far)
+      → let r = readOf derive (hashesOf bytes) s c size salt in
+      (r .answer .refusal ≡ 0) × Exactly (filterRule size salt) (idsOf derive (hashesOf bytes)) far (oursIn r) (theirsIn r) (isComplete r)
+  unfolding idsOf Rattle.filter.specs.Table.idsOf
+  session-exact bound g far once small made clear =
+      subst
+      (λ (r : Read). (r .answer .refusal ≡ 0) × Exactly (filterRule size salt) (idsOf derive (hashesOf bytes)) far (oursIn r) (theirsIn r) (isComplete r))
+      (sym (reading-is-filters g))
+      (reads-exactly derive bound size salt bytes (laid c (s .columns)) (s .ours) (s .theirs) g far once small made clear)

@@ -1,0 +1,228 @@
+-- `lists::on_offer` meets its contract: each answer is the turn's at the test that failed, and behind them the new hashes are stored and
+-- demanded. Assumes nothing.
+use mathlib.Core.Path.{_≡_, refl, sym}
+use Prim.Native.Nat.{_+_, _*_, _≤_}
+use native.Mathlib.Omega.{arith}
+use lib.Dec.{eqb}
+use lib.ListN.{length, take}
+use lib.Seq.{length-take-le}
+use borrow.Author.Needs.{needs}
+use Rattle.bucket.specs.Digits.{unpacked}
+use Rattle.bucket.specs.Lists.{part}
+use Rattle.bucket.proofs.TestLaws.{test-refused, test-granted}
+use Rattle.session.specs.Grid.{ACTIVE}
+use Rattle.session.proofs.SaidLaws.{items-short}
+use Rattle.session.proofs.StartLaws.{rooms-there}
+use Rattle.session.proofs.OfferSteps.{Found, found, offer-untimely, offer-bad, offer-over, offer-taken}
+use Rattle.session.proofs.lists.on_offer.Statement.{statement}
+use Rattle.session.proofs.lists.on_offer.Tie as tie
+use Rattle.session.proofs.lists.on_offer.Reads as reads
+use Rattle.session.proofs.lists.on_offer.Lts as lts
+use Rattle.session.proofs.grid.admits.Reads as admits-reads
+use Rattle.session.proofs.numbers.aborted.Reads as aborted-reads
+use Rattle.session.proofs.numbers.answered.Reads as answered-reads
+use Rattle.session.proofs.numbers.with_demanded.Reads as with-demanded-reads
+use Rattle.session.proofs.offering.count_extra.Reads as count-extra-reads
+use Rattle.session.proofs.offering.new_all.Reads as new-all-reads
+use Rattle.session.proofs.offering.store_all.Reads as store-all-reads
+use Rattle.session.proofs.sending.send_demands.Reads as send-demands-reads
+
+-- the place behind the walk, and what the walk left
+abbrev Behind : Type 0
+Behind =
+    lts.After-new-all (admits-reads.Asked, admits-reads.Learnt, aborted-reads.Asked, aborted-reads.Learnt, new-all-reads.Asked, new-all-reads.Learnt, count-extra-reads.Asked, count-extra-reads.Learnt, store-all-reads.Asked, store-all-reads.Learnt, send-demands-reads.Asked, send-demands-reads.Learnt, with-demanded-reads.Asked, with-demanded-reads.Learnt, answered-reads.Asked, answered-reads.Learnt) reads.Pre reads.Post
+
+few : (c : Behind) → c .new-all .result .count ≤ 1023
+few c = omega (arith, c .new-all .ensures .1, c .before .before .before .before .before .before .before .before .before .before .before .before .before .before .before .pre .8)
+
+-- the hashes gathered lie in their room
+within : (c : Behind) → 64 * c .new-all .result .count ≤ length (c .new-all .last .1 .1 .1 .1 .1 .1 .1 .1 .0)
+within c = omega (arith, few c, c .new-all .kept .1 .1 .1 .1 .1 .1 .1 .1 .0)
+
+cut : (c : Behind) → length (take (64 * c .new-all .result .count) (c .new-all .last .1 .1 .1 .1 .1 .1 .1 .1 .0)) ≡ 64 * c .new-all .result .count
+cut c = length-take-le (64 * c .new-all .result .count) (c .new-all .last .1 .1 .1 .1 .1 .1 .1 .1 .0) (within c)
+
+went : (c : Behind) → let a = c .before .before .before .before .before .before .before .before .before .before .before .before .before .before .before .args in
+    Found (a .table .now) (take (64 * a .numbers .demanded) (a .records .now)) (take (a .numbers .inquired) (a .inquired .now)) (eqb (a .numbers .state) ACTIVE)
+    (unpacked 512 (a .n) (part 4 (64 * a .n) (a .message .now))) (c .new-all .result .fine) (c .new-all .result .count) (c .new-all .last .1 .1 .1 .1 .1 .1 .1 .1 .0)
+went c =
+    let a = c .before .before .before .before .before .before .before .before .before .before .before .before .before .before .before .args in
+    found (a .table .now) (take (64 * a .numbers .demanded) (a .records .now)) (take (a .numbers .inquired) (a .inquired .now)) (eqb (a .numbers .state) ACTIVE)
+    (unpacked 512 (a .n) (part 4 (64 * a .n) (a .message .now))) (items-short (a .n) (part 4 (64 * a .n) (a .message .now))) refl (few c) (c .new-all .ensures .0)
+
+admits-requires : tie.Need-admits-requires
+admits-requires c κs = search needs
+
+aborted-requires : tie.Need-aborted-requires
+aborted-requires c κs = search needs
+
+returns : tie.Need-returns
+returns c =
+    let a = c .before .before .before .before .before .before .before .before .before .args in
+    offer-untimely (a .numbers) (a .table .now) (take (64 * a .numbers .demanded) (a .records .now)) (take (a .numbers .inquired) (a .inquired .now)) (unpacked 512 (a .n) (part 4 (64 * a .n) (a .message .now)))
+    (a .concerned) (a .records .now) (a .marks .now) (a .out .now)
+    (test-refused (c .before .before .admits .ensures) (c .before .if1 .taken)) (c .aborted .ensures)
+
+cast-demanded : tie.Need-cast-demanded
+cast-demanded c = search needs
+
+cast-k : tie.Need-cast-k
+cast-k c = search needs
+
+mul-e : tie.Need-mul-e
+mul-e c = search needs
+
+slice-reshare-prefix-new-all : tie.Need-slice-reshare-prefix-new-all
+slice-reshare-prefix-new-all c = search needs
+
+slice-aggregate-new-all : tie.Need-slice-aggregate-new-all
+slice-aggregate-new-all c =
+    let s = c .before .before .before .before .before .before .before .before .before .before .before .before in
+    sym (length-take-le (64 * s .args .numbers .demanded) (s .args .records .now) (omega (arith, s .pre .1, s .pre .2)))
+
+slice-aggregate-new-all-2 : tie.Need-slice-aggregate-new-all-2
+slice-aggregate-new-all-2 c = search needs
+
+slice-aggregate-new-all-3 : tie.Need-slice-aggregate-new-all-3
+slice-aggregate-new-all-3 c = search needs
+
+new-all-requires : tie.Need-new-all-requires
+new-all-requires c κs =
+    let s = c .before .before .before .before .before .before .before .before .before .before .before .before .before .before in
+    (s .pre .0 .table-good, s .pre .0 .known-good, s .pre .4, s .pre .5, s .pre .7, s .pre .8, omega arith, omega arith)
+
+aborted-requires-2 : tie.Need-aborted-requires-2
+aborted-requires-2 c κs = search needs
+
+same-length : tie.Need-same-length
+same-length c = search needs
+
+returns-2 : tie.Need-returns-2
+returns-2 c =
+    let found = c .before .before .before .before .before in
+    let a = found .before .before .before .before .before .before .before .before .before .before .before .before .before .before .before .args in
+    offer-bad (a .numbers) (a .table .now) (take (64 * a .numbers .demanded) (a .records .now)) (take (a .numbers .inquired) (a .inquired .now)) (unpacked 512 (a .n) (part 4 (64 * a .n) (a .message .now)))
+    (a .concerned) (a .records .now) (a .marks .now) (a .out .now)
+    (test-granted (found .before .before .before .before .before .before .before .before .admits .ensures) (found .before .before .before .before .before .before .before .if1 .left)) (went found) (test-refused refl (c .before .if2 .taken)) (c .aborted2 .ensures)
+
+slice-aggregate-count-extra : tie.Need-slice-aggregate-count-extra
+slice-aggregate-count-extra c = search needs
+
+count-extra-requires : tie.Need-count-extra-requires
+count-extra-requires c κs = (within (c .before .before .before .before .before), few (c .before .before .before .before .before), c .before .before .before .before .before .before .before .before .before .before .before .before .before .before .before .before .before .before .before .before .pre .4, c .before .before .before .before .before .before .before .before .before .before .before .before .before .before .before .before .before .before .before .before .pre .5)
+
+add-if3 : tie.Need-add-if3
+add-if3 c = omega (arith, c .count-extra .ensures .1, few (c .before .before .before .before .before .before), c .before .before .before .before .before .before .before .before .before .before .before .before .before .before .before .before .before .before .before .before .before .pre .6)
+
+add-if3-2 : tie.Need-add-if3-2
+add-if3-2 c = omega (arith, few (c .before .before .before .before .before .before), c .before .before .before .before .before .before .before .before .before .before .before .before .before .before .before .before .before .before .before .before .before .pre .2)
+
+aborted-requires-3 : tie.Need-aborted-requires-3
+aborted-requires-3 c κs = search needs
+
+same-length-2 : tie.Need-same-length-2
+same-length-2 c = search needs
+
+returns-3 : tie.Need-returns-3
+returns-3 c =
+    let found = c .before .before .before .before .before .before .before .before in
+    let a = found .before .before .before .before .before .before .before .before .before .before .before .before .before .before .before .args in
+    offer-over (a .numbers) (a .table .now) (take (64 * a .numbers .demanded) (a .records .now)) (take (a .numbers .inquired) (a .inquired .now)) (unpacked 512 (a .n) (part 4 (64 * a .n) (a .message .now)))
+    (a .concerned) (a .records .now) (a .marks .now) (a .out .now)
+    (test-granted (found .before .before .before .before .before .before .before .before .admits .ensures) (found .before .before .before .before .before .before .before .if1 .left)) (went found) (test-granted refl (c .before .before .before .before .if2 .left))
+    (c .before .before .count-extra .ensures .0) (c .before .if3 .taken) (c .aborted3 .ensures)
+
+slice-aggregate-store-all : tie.Need-slice-aggregate-store-all
+slice-aggregate-store-all c = search needs
+
+store-all-requires : tie.Need-store-all-requires
+store-all-requires c κs =
+    let s = c .before .before .before .before .before .before .before .before .before .before .before .before .before .before .before .before .before .before .before .before .before .before .before .before .before in
+    let counted = c .before .before .before .before .count-extra in
+    (s .pre .1, s .pre .0 .marks-room, rooms-there (s .args .concerned + counted .result) (s .args .numbers .demanded + c .before .before .before .before .before .before .before .before .before .before .new-all .result .count) 4096 4096 (c .before .before .before .if3 .left) .1, within (c .before .before .before .before .before .before .before .before .before .before))
+
+mul-to : tie.Need-mul-to
+mul-to c = omega (arith, few (c .before .before .before .before .before .before .before .before .before .before .before .before .before .before .before))
+
+array-share-prefix-hashes : tie.Need-array-share-prefix-hashes
+array-share-prefix-hashes c = within (c .before .before .before .before .before .before .before .before .before .before .before .before .before .before .before)
+
+slice-aggregate-send-demands : tie.Need-slice-aggregate-send-demands
+slice-aggregate-send-demands c = sym (cut (c .before .before .before .before .before .before .before .before .before .before .before .before .before .before .before .before))
+
+send-demands-requires : tie.Need-send-demands-requires
+send-demands-requires c κs =
+    (omega (arith, cut (c .before .before .before .before .before .before .before .before .before .before .before .before .before .before .before .before .before)), omega (arith, went (c .before .before .before .before .before .before .before .before .before .before .before .before .before .before .before .before .before) .room (test-granted refl (c .before .before .before .before .before .before .before .before .before .before .before .before .before .if2 .left)), c .before .before .before .before .before .before .before .before .before .before .before .before .before .before .before .before .before .before .before .before .before .before .before .before .before .before .before .before .before .before .before .before .pre .9))
+
+add-with-demanded : tie.Need-add-with-demanded
+add-with-demanded c = omega (arith, few (c .before .before .before .before .before .before .before .before .before .before .before .before .before .before .before .before .before .before .before .before), c .before .before .before .before .before .before .before .before .before .before .before .before .before .before .before .before .before .before .before .before .before .before .before .before .before .before .before .before .before .before .before .before .before .before .before .pre .2)
+
+cast-with-demanded : tie.Need-cast-with-demanded
+cast-with-demanded c = omega (arith, few (c .before .before .before .before .before .before .before .before .before .before .before .before .before .before .before .before .before .before .before .before), c .before .before .before .before .before .before .before .before .before .before .before .before .before .before .before .before .before .before .before .before .before .before .before .before .before .before .before .before .before .before .before .before .before .before .before .pre .2)
+
+with-demanded-requires : tie.Need-with-demanded-requires
+with-demanded-requires c κs = search needs
+
+answered-requires : tie.Need-answered-requires
+answered-requires c κs = search needs
+
+same-length-3 : tie.Need-same-length-3
+same-length-3 c = search needs
+
+same-length-4 : tie.Need-same-length-4
+same-length-4 c = search needs
+
+same-length-5 : tie.Need-same-length-5
+same-length-5 c = search needs
+
+returns-4 : tie.Need-returns-4
+returns-4 c =
+    let sent = c .before .before .before .before in
+    let kept = sent .before .before .before .before .before .before .before in
+    let found = kept .before .before .before .before .before .before .before .before .before .before .before in
+    let a = found .before .before .before .before .before .before .before .before .before .before .before .before .before .before .before .args in
+    offer-taken (a .numbers) (a .table .now) (take (64 * a .numbers .demanded) (a .records .now)) (take (a .numbers .inquired) (a .inquired .now)) (unpacked 512 (a .n) (part 4 (64 * a .n) (a .message .now)))
+    (a .concerned) (a .records .now) (a .marks .now) (a .out .now)
+    (test-granted (found .before .before .before .before .before .before .before .before .admits .ensures) (found .before .before .before .before .before .before .before .if1 .left)) (went found) (test-granted refl (kept .before .before .before .before .before .before .before .if2 .left))
+    (kept .before .before .before .before .before .count-extra .ensures .0) (kept .before .before .before .before .if3 .left)
+    (c .answered .ensures) (c .before .with-demanded .ensures) (kept .store-all .ensures) (sent .send-demands .ensures)
+
+pub on-offer-spec : {M : Type 1} → statement M
+on-offer-spec =
+    tie.close
+    (tie.spec
+    admits-requires
+    aborted-requires
+    returns
+    cast-demanded
+    cast-k
+    mul-e
+    slice-reshare-prefix-new-all
+    slice-aggregate-new-all
+    slice-aggregate-new-all-2
+    slice-aggregate-new-all-3
+    new-all-requires
+    aborted-requires-2
+    same-length
+    returns-2
+    slice-aggregate-count-extra
+    count-extra-requires
+    add-if3
+    add-if3-2
+    aborted-requires-3
+    same-length-2
+    returns-3
+    slice-aggregate-store-all
+    store-all-requires
+    mul-to
+    array-share-prefix-hashes
+    slice-aggregate-send-demands
+    send-demands-requires
+    add-with-demanded
+    cast-with-demanded
+    with-demanded-requires
+    answered-requires
+    same-length-3
+    same-length-4
+    same-length-5
+    returns-4)

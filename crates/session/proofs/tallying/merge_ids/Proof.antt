@@ -1,0 +1,98 @@
+-- `tallying::merge_ids` meets its contract: the IDs of both tables are gathered at the front of 4,096 numbers, and merged. Assumes nothing.
+use mathlib.Core.Path.{ap, ap₂, _∙_}
+use mathlib.Core.List.{List}
+use Prim.Native.Nat.{ℕ}
+use lib.ListN.{take}
+use borrow.Author.Needs.{needs}
+use Rattle.session.specs.Moves.{common}
+use Rattle.session.proofs.JudgeLaws.{table-few, Gathered, gathered}
+use Rattle.session.proofs.tallying.merge_ids.Statement.{statement}
+use Rattle.session.proofs.tallying.merge_ids.Tie as tie
+
+-- ts and ks, once they are written
+gathered-table : (c : tie.After-ids-into) → Gathered (c .before .before .before .before .before .before .before .args .table .now) (c .ids-into .last .1 .0) (c .before .before .before .count .result)
+gathered-table c =
+    let s = c .before .before .before .before .before .before .before in
+    gathered (s .args .table .now) _ (c .ids-into .last .1 .0) (c .before .before .before .count .result) (s .pre .0) (c .before .before .before .count .ensures) (c .ids-into .kept .1 .0) (c .ids-into .ensures)
+
+gathered-known : (c : tie.After-ids-into2) → Gathered (c .before .before .before .before .before .before .before .before .before .before .args .known .now) (c .ids-into2 .last .1 .0) (c .before .before .before .before .before .count2 .result)
+gathered-known c =
+    let s = c .before .before .before .before .before .before .before .before .before .before in
+    gathered (s .args .known .now) _ (c .ids-into2 .last .1 .0) (c .before .before .before .before .before .count2 .result) (s .pre .1) (c .before .before .before .before .before .count2 .ensures) (c .ids-into2 .kept .1 .0) (c .ids-into2 .ensures)
+
+count-requires : tie.Need-count-requires
+count-requires c κs = search needs
+
+count-requires-2 : tie.Need-count-requires-2
+count-requires-2 c κs = search needs
+
+slice-aggregate-ids-into : tie.Need-slice-aggregate-ids-into
+slice-aggregate-ids-into c = search needs
+
+ids-into-requires : tie.Need-ids-into-requires
+ids-into-requires c κs = let s = c .before .before .before .before .before .before in table-few (s .args .table .now) (s .pre .0)
+
+slice-aggregate-ids-into-2 : tie.Need-slice-aggregate-ids-into-2
+slice-aggregate-ids-into-2 c = search needs
+
+ids-into-requires-2 : tie.Need-ids-into-requires-2
+ids-into-requires-2 c κs = let s = c .before .before .before .before .before .before .before .before .before in table-few (s .args .known .now) (s .pre .1)
+
+slice-aggregate-common : tie.Need-slice-aggregate-common
+slice-aggregate-common c = search needs
+
+slice-aggregate-common-2 : tie.Need-slice-aggregate-common-2
+slice-aggregate-common-2 c = search needs
+
+common-requires : tie.Need-common-requires
+common-requires c κs =
+    let t = gathered-table (c .before .before .before .before .before .before) in
+    let k = gathered-known (c .before .before .before) in
+    (k .room, t .room, k .asc, t .asc)
+
+slice-aggregate-common-3 : tie.Need-slice-aggregate-common-3
+slice-aggregate-common-3 c = search needs
+
+common-requires-2 : tie.Need-common-requires-2
+common-requires-2 c κs =
+    let s = c .before .before .before .before .before .before .before .before .before .before .before .before .before .before .before in
+    let t = gathered-table (c .before .before .before .before .before .before .before .before) in
+    (s .pre .2, t .room, s .pre .3, t .asc)
+
+slice-aggregate-common-4 : tie.Need-slice-aggregate-common-4
+slice-aggregate-common-4 c = search needs
+
+common-requires-3 : tie.Need-common-requires-3
+common-requires-3 c κs =
+    let s = c .before .before .before .before .before .before .before .before .before .before .before .before .before .before .before .before .before in
+    let k = gathered-known (c .before .before .before .before .before .before .before) in
+    (k .room, s .pre .2, k .asc, s .pre .3)
+
+returns : tie.Need-returns
+returns c =
+    let a = c .before .before .before .before .before .before .before .before .before .before .before .before .before .before .before .before .before .before .args in
+    let t = gathered-table (c .before .before .before .before .before .before .before .before .before .before .before) .ids in
+    let k = gathered-known (c .before .before .before .before .before .before .before .before) .ids in (
+      c .before .before .before .before .common .ensures ∙ ap₂ common k t,
+      c .before .before .common2 .ensures ∙ ap (common (take (a .k) (a .inquired .now))) t,
+      c .common3 .ensures ∙ ap (λ (l : List ℕ). common l (take (a .k) (a .inquired .now))) k,
+    )
+
+pub merge-ids-spec : {M : Type 1} → statement M
+merge-ids-spec =
+    tie.close
+    (tie.spec
+    count-requires
+    count-requires-2
+    slice-aggregate-ids-into
+    ids-into-requires
+    slice-aggregate-ids-into-2
+    ids-into-requires-2
+    slice-aggregate-common
+    slice-aggregate-common-2
+    common-requires
+    slice-aggregate-common-3
+    common-requires-2
+    slice-aggregate-common-4
+    common-requires-3
+    returns)

@@ -1,0 +1,11 @@
+-- The definitions of the crate `session`, in the order in which a reader meets them.
+pub mod Sets
+pub mod Grid
+pub mod Session
+pub mod Form
+pub mod Memory
+pub mod Calls
+pub mod Moves
+pub mod Turns
+pub mod Ready
+pub mod Judged

@@ -1,0 +1,298 @@
+-- What each message's function computes, in the code's own shape: cited by private contracts alone. Nothing here is to be believed: laws
+-- (proofs/*Turn) show that each turn is what `Calls` says of its message.
+use mathlib.Core.Bool.{Bool, true, false, not, _&&_, _||_, cond}
+use mathlib.Core.List.{List, [], _∷_, _++_, map, foldr}
+use Prim.Native.Nat.{ℕ, _+_, _-_}
+use lib.Bits.{bitXor}
+use lib.Dec.{eqb, ltb, leb}
+use lib.ListN.{length, getD, set, take}
+use Rattle.bucket.specs.Bucket.{𝟎}
+use Rattle.bucket.specs.Columns.{Columns}
+use Rattle.bucket.specs.Digits.{joined, packed}
+use Rattle.bucket.specs.Lists.{over, part}
+use Rattle.filter.specs.declared.answers.Answer.{Answer as ReadAnswer}
+use Rattle.filter.specs.Calls.{Read, unread, filled, listedInto}
+use Rattle.filter.specs.Lists.{ascending}
+use Rattle.filter.specs.Table.{firstEight, hashesOf, idsOf, isTable, position}
+use Rattle.message.specs.Laying.{laid}
+use Rattle.message.specs.Layout.{Content, done}
+use Rattle.message.specs.Writing.{layouts, inquiriesOf, offersOf, demandsOf}
+use Rattle.session.specs.declared.numbers.Numbers.{Numbers}
+use Rattle.session.specs.declared.numbers.Answer.{Answer}
+use Rattle.session.specs.declared.tallying.Tally.{Tally}
+use Rattle.session.specs.Sets.{implies, same}
+use Rattle.session.specs.Grid.{EXPECTING, EXPECTING-LAST, ACTIVE, PASSIVE, CLOSING, WAITING, FINISHED, ABORTED, entry}
+use Rattle.session.specs.Session.{nextSalt, nextSize, ownFilter, isComplete, oursIn, theirsIn, readingAt}
+use Rattle.session.specs.Memory.{isMet}
+use Rattle.session.specs.Calls.{numbered, answered, inState}
+use Rattle.session.specs.Moves.{placeOfHash, askAll, serveAll, newAll, extra, Stored, stored, storeAll, insertedAll, tableMark, recordMark, allOf, metCount, isZero, common, checkOf}
+
+-- ---- numbers
+
+abbrev pub aborted : ℕ → Numbers → Answer
+aborted n N = answered n 0 0 (inState ABORTED N)
+
+-- a message has come, the state stays
+abbrev pub onward : Numbers → Numbers
+onward N = numbered (N .state) 0 (N .size) (N .salt) (N .width) (N .swaps) (N .done) (N .demanded) (N .inquired)
+
+-- ---- the form of a ledger in memory, by counting
+
+-- how many IDs of the demanded are the table's, of the inquired the table's, and of the demanded inquired
+abbrev pub idle : ℕ → ℕ → Bool
+idle state first = eqb state EXPECTING || (eqb state EXPECTING-LAST || (eqb state PASSIVE && eqb first 1))
+
+unfoldable pub formBy : (state first went nt n k both a b met : ℕ) → Bool → Bool
+formBy state first went nt n k both a b met zero =
+    eqb both 0
+    && (leb (nt + n + k) (4096 + a + b)
+    && (implies (idle state first) (eqb n 0 && (eqb k 0 && (zero && eqb went 0)))
+    && implies (eqb state ACTIVE) (eqb b n && same (eqb went 1) (eqb (a + met) k))))
+
+abbrev pub tallied : Bool → ℕ → ℕ → ℕ → Tally
+tallied good concerned came unmet = record { good = good; concerned = concerned; came = came; unmet = unmet }
+
+-- of the table, the bytes of the demanded hashes, marks and the IDs inquired
+unfoldable pub goodTally : Numbers → List ℕ → List ℕ → List ℕ → List ℕ → Bool
+goodTally N table known M I =
+    let t = idsOf firstEight table in
+    let ks = idsOf firstEight known in
+    let fs = part 4096 (length ks) M in
+    isTable firstEight known
+    && (ascending I
+    && (allOf tableMark (take (length t) M)
+    && (allOf recordMark fs
+    && formBy (N .state) (N .first) (N .done) (length t) (length ks) (length I) (common ks t) (common I t) (common ks I) (metCount fs) (allOf isZero (take (length t) M)))))
+
+unfoldable pub tallyOf : Numbers → List ℕ → List ℕ → List ℕ → List ℕ → Tally
+tallyOf N table known M I =
+    let t = idsOf firstEight table in
+    let ks = idsOf firstEight known in
+    let fs = part 4096 (length ks) M in
+    cond (goodTally N table known M I)
+    (tallied true (length t + length ks + length I - common I t - common ks I) (common I t + metCount fs) (length ks - metCount fs))
+    (tallied false 0 0 0)
+
+-- ---- INQUIRY, DEMAND, ELEMENT: marks change, and something is written
+
+pub record MarkTurn : Type 0 where
+  pub answer : Answer
+  pub marks : List ℕ
+  pub out : List ℕ
+
+abbrev pub markTurn : Answer → List ℕ → List ℕ → MarkTurn
+markTurn a M out = record { answer = a; marks = M; out = out }
+
+-- t and K are the hashes of the table and those demanded
+unfoldable pub inquiryTurn : Numbers → List ℕ → List ℕ → ℕ → List ℕ → List ℕ → List ℕ → MarkTurn
+inquiryTurn N t K salt xs M out =
+    let w = askAll firstEight t K xs (take 8192 M) in
+    let cs = offersOf (w .hashes) in
+    cond (entry (N .state) 2)
+    (cond (eqb salt (N .salt))
+    (cond (w .fine)
+    (markTurn (answered 0 (length (layouts cs)) 0 (onward N)) (over 0 (w .marks) M) (over 0 (layouts cs) out))
+    (markTurn (aborted 7 N) M out))
+    (markTurn (aborted 7 N) M out))
+    (markTurn (aborted 5 N) M out)
+
+unfoldable pub demandTurn : Numbers → List ℕ → List ℕ → List ℕ → List ℕ → List ℕ → MarkTurn
+demandTurn N t K hs M out =
+    let w = serveAll firstEight t K hs (take 8192 M) in
+    cond (entry (N .state) 4)
+    (cond (w .fine)
+    (markTurn (answered 0 0 (length hs) (onward N)) (over 0 (w .marks) M) (over 0 (packed 512 hs) out))
+    (markTurn (aborted 7 N) M out))
+    (markTurn (aborted 5 N) M out)
+
+-- far is the far checksum, h the element's hash
+abbrev pub isClosing : Numbers → ℕ → Bool
+isClosing N unmet = (eqb (N .state) CLOSING || eqb (N .state) WAITING) && eqb unmet 1
+
+abbrev pub sendsDone : Numbers → ℕ → ℕ → Bool
+sendsDone N came unmet = (eqb (N .state) ACTIVE && eqb (came + 1) (N .inquired)) || (eqb (N .state) WAITING && eqb unmet 1)
+
+abbrev pub withElement : Numbers → ℕ → ℕ → Numbers
+withElement N came unmet =
+    numbered (cond (isClosing N unmet) FINISHED (N .state)) 0 (N .size) (N .salt) (N .width) (N .swaps) (cond (sendsDone N came unmet) 1 (N .done)) (N .demanded) (N .inquired)
+
+unfoldable pub elementTurn : Numbers → List ℕ → List ℕ → ℕ → ℕ → ℕ → ℕ → List ℕ → List ℕ → MarkTurn
+elementTurn N t K far h came unmet M out =
+    let p = placeOfHash firstEight t K h in
+    let check = bitXor (checkOf t K (part 4096 (length K) M)) h in
+    let cs = cond (sendsDone N came unmet) (done check ∷ []) [] in
+    cond (entry (N .state) 5)
+    (cond (leb 4096 p && (ltb p 8192 && not (isMet (getD M p 0))))
+    (cond (isClosing N unmet && not (eqb far check))
+    (markTurn (aborted 8 N) M out)
+    (markTurn (answered 0 (length (layouts cs)) 0 (withElement N came unmet)) (set M p 8) (over 0 (layouts cs) out)))
+    (markTurn (aborted 7 N) M out))
+    (markTurn (aborted 5 N) M out)
+
+-- ---- DONE: the far checksum may be kept
+
+pub record EndTurn : Type 0 where
+  pub answer : Answer
+  pub records : List ℕ
+  pub out : List ℕ
+
+abbrev pub endTurn : Answer → List ℕ → List ℕ → EndTurn
+endTurn a R out = record { answer = a; records = R; out = out }
+
+abbrev pub closed : Numbers → ℕ → ℕ → Numbers
+closed N state went = numbered state 0 (N .size) (N .salt) (N .width) (N .swaps) went (N .demanded) (N .inquired)
+
+-- far is the 64 bytes of the checksum in the message
+unfoldable pub doneTurn : Numbers → List ℕ → List ℕ → List ℕ → List ℕ → ℕ → List ℕ → List ℕ → EndTurn
+doneTurn N t K M far unmet R out =
+    let check = checkOf t K (part 4096 (length K) M) in
+    let cs = done check ∷ [] in
+    cond (entry (N .state) 6)
+    (cond (eqb (N .state) ACTIVE && not (eqb (N .done) 1))
+    (endTurn (aborted 5 N) R out)
+    (cond (eqb unmet 0)
+    (cond (eqb (joined 8 far) check)
+    (cond (eqb (N .state) PASSIVE)
+    (endTurn (answered 0 (length (layouts cs)) 0 (closed N FINISHED 1)) R (over 0 (layouts cs) out))
+    (endTurn (answered 0 0 0 (closed N FINISHED (N .done))) R out))
+    (endTurn (aborted 8 N) R out))
+    (endTurn (answered 0 0 0 (closed N (cond (eqb (N .state) ACTIVE) CLOSING WAITING) (N .done))) (over 262144 far R) out)))
+    (endTurn (aborted 5 N) R out)
+
+-- ---- OFFER: new hashes are demanded
+
+pub record OfferTurn : Type 0 where
+  pub answer : Answer
+  pub stored : Stored
+  pub out : List ℕ
+
+abbrev pub offerTurn′ : Answer → Stored → List ℕ → OfferTurn
+offerTurn′ a s out = record { answer = a; stored = s; out = out }
+
+abbrev pub withDemanded : Numbers → ℕ → Numbers
+withDemanded N n = numbered (N .state) 0 (N .size) (N .salt) (N .width) (N .swaps) (N .done) n (N .inquired)
+
+-- concerned: how many IDs are held or wanted
+unfoldable pub offerTurn : Numbers → List ℕ → List ℕ → List ℕ → List ℕ → ℕ → List ℕ → List ℕ → List ℕ → OfferTurn
+offerTurn N t K I hs concerned R M out =
+    let w = newAll firstEight t K I (eqb (N .state) ACTIVE) hs in
+    let n = N .demanded in
+    let m = length (w .hashes) in
+    let cs = demandsOf (w .hashes) in
+    cond (entry (N .state) 3)
+    (cond (w .fine)
+    (cond (ltb 4096 (concerned + extra firstEight I (w .hashes)) || ltb 4096 (n + m))
+    (offerTurn′ (aborted 10 N) (stored R M) out)
+    (offerTurn′ (answered 0 (length (layouts cs)) 0 (withDemanded N (n + m))) (storeAll n (w .hashes) (stored R M)) (over 0 (layouts cs) out)))
+    (offerTurn′ (aborted 7 N) (stored R M) out))
+    (offerTurn′ (aborted 5 N) (stored R M) out)
+
+-- ---- slices
+
+-- the entry of the grid, and in state 3 "only as first message since entry"
+unfoldable pub admitsSlice : Numbers → ℕ → Bool
+admitsSlice N kind = entry (N .state) kind && not (eqb (N .state) PASSIVE && not (eqb (N .first) 1))
+
+unfoldable pub isPlaced : Numbers → (size offset salt width : ℕ) → Bool
+isPlaced N size offset salt width =
+    cond (eqb (N .state) EXPECTING-LAST)
+    (eqb offset 2520 && (eqb size (N .size) && (eqb salt (N .salt) && eqb width (N .width))))
+    (eqb offset 0)
+
+abbrev pub slicedNumbers : Numbers → (size salt width : ℕ) → Numbers
+slicedNumbers N size salt width = numbered EXPECTING-LAST 0 size salt width (N .swaps) (N .done) (N .demanded) (N .inquired)
+
+-- the elements of ours marked offered, one after the other
+unfoldable pub markAll : List ℕ → List ℕ → List ℕ → List ℕ
+markAll ts [] M = M
+markAll ts (x ∷ xs) M = markAll ts xs (set M (position ts x) 2)
+
+abbrev pub hashesAt : List ℕ → List ℕ → List ℕ → List ℕ
+hashesAt t ts xs = map (λ x. getD t (position ts x) 0) xs
+
+-- a complete reading opens the session: what it answers, and marks, the inquired IDs and the outgoing buffer
+pub record OpenTurn : Type 0 where
+  pub answer : Answer
+  pub marks : List ℕ
+  pub inquired : List ℕ
+  pub out : List ℕ
+
+abbrev pub openTurn′ : Answer → List ℕ → List ℕ → List ℕ → OpenTurn
+openTurn′ a M I out = record { answer = a; marks = M; inquired = I; out = out }
+
+abbrev pub openedNumbers : Numbers → (size salt went inquired : ℕ) → Numbers
+openedNumbers N size salt went inquired = numbered ACTIVE 0 size salt 0 (N .swaps) went (N .demanded) inquired
+
+unfoldable pub openTurn : Numbers → List ℕ → (size salt : ℕ) → List ℕ → List ℕ → List ℕ → List ℕ → List ℕ → OpenTurn
+openTurn N table size salt ours theirs M I out =
+    let t = hashesOf table in
+    let ts = idsOf firstEight table in
+    let none = eqb (length theirs) 0 in
+    let cs = inquiriesOf salt theirs ++ (offersOf (hashesAt t ts ours) ++ cond none (done (foldr bitXor 0 t) ∷ []) []) in
+    openTurn′
+    (answered 0 (length (layouts cs)) 0 (openedNumbers N size salt (cond none 1 0) (length theirs)))
+    (markAll ts ours M) (insertedAll 0 theirs I) (over 0 (layouts cs) out)
+
+abbrev pub swappedNumbers : Numbers → (size salt : ℕ) → Numbers
+swappedNumbers N size salt = numbered PASSIVE 1 (nextSize size) (nextSalt salt) 0 (N .swaps + 1) (N .done) (N .demanded) (N .inquired)
+
+-- ---- IBF and IBF LAST
+
+-- columns and lists, as a reading leaves them
+pub record SliceTurn : Type 0 where
+  pub answer : Answer
+  pub columns : Columns
+
+abbrev pub sliceTurn′ : Answer → Columns → SliceTurn
+sliceTurn′ a c = record { answer = a; columns = c }
+
+-- c is what the message says
+unfoldable pub sliceTurn : Numbers → Content → (size offset salt width : ℕ) → Columns → SliceTurn
+sliceTurn N c size offset salt width cols =
+    cond (admitsSlice N 0)
+    (cond (isPlaced N size offset salt width)
+    (sliceTurn′ (answered 0 0 0 (slicedNumbers N size salt width)) (laid c cols))
+    (sliceTurn′ (aborted 4 N) cols))
+    (sliceTurn′ (aborted 5 N) cols)
+
+-- everything that the last slice may change
+pub record LastTurn : Type 0 where
+  pub answer : Answer
+  pub marks : List ℕ
+  pub inquired : List ℕ
+  pub read : Read
+  pub out : List ℕ
+
+-- the session ends, or goes on, by how the reading ended
+unfoldable pub fateOf : ReadAnswer → ℕ → ℕ → ℕ
+fateOf a nt swaps = cond (eqb (a .complete) 1) (cond (ltb 4096 (nt + a .theirs)) 10 0) (cond (leb 16 swaps) 9 (a .refusal))
+
+abbrev pub lastTurn′ : Answer → List ℕ → List ℕ → Read → List ℕ → LastTurn
+lastTurn′ a M I r out = record { answer = a; marks = M; inquired = I; read = r; out = out }
+
+-- columns and lists as they were
+abbrev pub untouched : Columns → List ℕ → List ℕ → Read
+untouched c o th = unread 0 c o th
+
+abbrev pub wiped : ℕ → Read → Read
+wiped size r = unread 0 (filled size (λ i. 𝟎) (r .columns)) (listedInto size [] (r .ours)) (listedInto size [] (r .theirs))
+
+abbrev pub kept : Read → Read
+kept r = untouched (r .columns) (r .ours) (r .theirs)
+
+unfoldable pub readTurn : Numbers → List ℕ → (size salt : ℕ) → Read → List ℕ → List ℕ → List ℕ → LastTurn
+readTurn N table size salt r M I out =
+    let f = fateOf (r .answer) (length (hashesOf table)) (N .swaps) in
+    let o = openTurn N table size salt (oursIn r) (theirsIn r) M I out in
+    let cs = ownFilter (idsOf firstEight table) (nextSize size) (nextSalt salt) in
+    cond (eqb f 9 || eqb f 10) (lastTurn′ (aborted f N) M I (wiped size r) out)
+    (cond (isComplete r) (lastTurn′ (o .answer) (o .marks) (o .inquired) (kept r) (o .out))
+    (lastTurn′ (answered f (length (layouts cs)) 0 (swappedNumbers N size salt)) M I (kept r) (over 0 (layouts cs) out)))
+
+unfoldable pub lastTurn : Numbers → List ℕ → Content → (size offset salt width : ℕ) → Columns → List ℕ → List ℕ → List ℕ → List ℕ → List ℕ → LastTurn
+lastTurn N table c size offset salt width cols o th M I out =
+    cond (admitsSlice N 1)
+    (cond (isPlaced N size offset salt width)
+    (readTurn N table size salt (readingAt firstEight (hashesOf table) size salt (laid c cols) o th) M I out)
+    (lastTurn′ (aborted 4 N) M I (untouched cols o th) out))
+    (lastTurn′ (aborted 5 N) M I (untouched cols o th) out)

@@ -1,0 +1,115 @@
+// ELEMENT and DONE: what a session ends with.
+ghost use mathlib.Core.Path.{_≡_};
+ghost use Prim.Native.Nat.{_+_, _*_, _≤_, _<_};
+ghost use lib.ListN.{length, take};
+ghost use Rattle.bucket.specs.Digits.{joined};
+ghost use Rattle.bucket.specs.Lists.{part};
+ghost use Rattle.filter.specs.Table.{hashesOf};
+ghost use Rattle.session.specs.Ready.{Kept};
+ghost use Rattle.session.specs.Turns.{markTurn, elementTurn, endTurn, doneTurn};
+use crate::numbers::ACTIVE;
+use crate::numbers::Answer;
+use crate::numbers::CLOSING;
+use crate::numbers::FINISHED;
+use crate::numbers::Numbers;
+use crate::numbers::PASSIVE;
+use crate::numbers::WAITING;
+
+// Where the far checksum stands in the records.
+pub(crate) const FAR: usize = 262144;
+
+// The checksum is made only where it is compared or sent.
+pub(crate) fn on_element(
+    numbers: Numbers,
+    table: &[u8],
+    records: &[u8],
+    marks: &mut [u8],
+    hash: &[u8],
+    out: &mut [u8],
+    came: usize,
+    unmet: usize,
+) -> Answer
+    requires { ⌜ Kept (now table) (take (64 * numbers .demanded) (now records)) (now marks) × (262208 ≤ length (now records)) × (numbers .demanded ≤ 4096) × (numbers .state < 8)
+        × (64 ≤ length (now hash)) × (295008 ≤ length (now out)) × (came ≤ 8192) ⌝ }
+    ensures { λ r. ⌜ markTurn r (now (marks .exit)) (now (out .exit))
+        ≡ elementTurn numbers (hashesOf (now (table .entry))) (hashesOf (take (64 * numbers .demanded) (now (records .entry)))) (joined 8 (part 262144 64 (now (records .entry)))) (joined 8 (take 64 (now (hash .entry)))) came unmet (now (marks .entry)) (now (out .entry)) ⌝ }
+{
+    if !crate::grid::admits(numbers.state, crate::grid::ELEMENT) {
+        return crate::numbers::aborted(5, numbers);
+    }
+    let e = 64 * numbers.demanded as usize;
+    let p = crate::places::place_of_hash(table, &records[..e], hash, 0);
+    if p < crate::places::RECORDS {
+        return crate::numbers::aborted(7, numbers);
+    }
+    if crate::places::NOWHERE <= p {
+        return crate::numbers::aborted(7, numbers);
+    }
+    if crate::places::is_met(marks[p]) {
+        return crate::numbers::aborted(7, numbers);
+    }
+    let state = numbers.state;
+    let closing = ((state == CLOSING) | (state == WAITING)) & (unmet == 1);
+    let sends = ((state == ACTIVE) & (came + 1 == numbers.inquired as usize))
+        | ((state == WAITING) & (unmet == 1));
+    if !(closing | sends) {
+        marks[p] = 8;
+        return crate::numbers::answered(0, 0, crate::numbers::onward(numbers));
+    }
+    let mut check = crate::checking::checksum(table, &records[..e], marks);
+    crate::checking::xor_into(&mut check, hash, 0);
+    if closing {
+        if !crate::places::same_hash(records, FAR, &check, 0) {
+            return crate::numbers::aborted(8, numbers);
+        }
+    }
+    marks[p] = 8;
+    let next = if closing { FINISHED } else { state };
+    if sends {
+        let sent = crate::sending::send_done(&check, out, 0);
+        return crate::numbers::answered(sent, 0, crate::numbers::closed(numbers, next, 1));
+    }
+    crate::numbers::answered(0, 0, crate::numbers::closed(numbers, next, numbers.done))
+}
+
+pub(crate) fn on_done(
+    numbers: Numbers,
+    table: &[u8],
+    records: &mut [u8],
+    marks: &[u8],
+    message: &[u8],
+    out: &mut [u8],
+    unmet: usize,
+) -> Answer
+    requires { ⌜ Kept (now table) (take (64 * numbers .demanded) (now records)) (now marks) × (262208 ≤ length (now records)) × (numbers .demanded ≤ 4096) × (numbers .state < 8)
+        × (68 ≤ length (now message)) × (295008 ≤ length (now out)) ⌝ }
+    ensures { λ r. ⌜ endTurn r (now (records .exit)) (now (out .exit))
+        ≡ doneTurn numbers (hashesOf (now (table .entry))) (hashesOf (take (64 * numbers .demanded) (now (records .entry)))) (now (marks .entry)) (part 4 64 (now (message .entry))) unmet (now (records .entry)) (now (out .entry)) ⌝ }
+{
+    let state = numbers.state;
+    if !crate::grid::admits(state, crate::grid::DONE) {
+        return crate::numbers::aborted(5, numbers);
+    }
+    if (state == ACTIVE) & !(numbers.done == 1) {
+        return crate::numbers::aborted(5, numbers);
+    }
+    if unmet != 0 {
+        crate::copying::copy(message, 4, 64, records, FAR);
+        let next = if state == ACTIVE { CLOSING } else { WAITING };
+        return crate::numbers::answered(0, 0, crate::numbers::closed(numbers, next, numbers.done));
+    }
+    let e = 64 * numbers.demanded as usize;
+    let check = crate::checking::checksum(table, &records[..e], marks);
+    if !crate::places::same_hash(message, 4, &check, 0) {
+        return crate::numbers::aborted(8, numbers);
+    }
+    if state == PASSIVE {
+        let sent = crate::sending::send_done(&check, out, 0);
+        return crate::numbers::answered(sent, 0, crate::numbers::closed(numbers, FINISHED, 1));
+    }
+    crate::numbers::answered(
+        0,
+        0,
+        crate::numbers::closed(numbers, FINISHED, numbers.done),
+    )
+}

@@ -1,0 +1,63 @@
+// The grid: a constant of states against messages, read by every message's function.
+ghost use mathlib.Core.Path.{_≡_};
+ghost use Prim.Native.Nat.{_<_};
+ghost use Rattle.session.specs.Grid.{entry};
+ghost use Rattle.session.specs.Turns.{admitsSlice, isPlaced};
+use crate::numbers::EXPECTING_LAST;
+use crate::numbers::Numbers;
+use crate::numbers::PASSIVE;
+
+// The columns of the grid.
+pub(crate) const IBF: usize = 0;
+
+pub(crate) const LAST: usize = 1;
+
+pub(crate) const INQUIRY: usize = 2;
+
+pub(crate) const OFFER: usize = 3;
+
+pub(crate) const DEMAND: usize = 4;
+
+pub(crate) const ELEMENT: usize = 5;
+
+pub(crate) const DONE: usize = 6;
+
+// One row a state: IBF, IBF LAST, INQUIRY, OFFER, DEMAND, ELEMENT, DONE.
+const GRID: [[bool; 7]; 8] = [
+    [true, true, false, false, false, false, false],
+    [true, true, false, false, false, false, false],
+    [false, false, false, true, true, true, true],
+    [true, true, true, true, true, true, true],
+    [false, false, false, false, false, true, false],
+    [false, false, false, false, false, true, false],
+    [false, false, false, false, false, false, false],
+    [false, false, false, false, false, false, false],
+];
+
+// Whether a message of a kind may come in a state.
+pub(crate) fn admits(state: u32, kind: usize) -> bool
+    requires { ⌜ (state < 8) × (kind < 7) ⌝ }
+    ensures { λ r. ⌜ r ≡ entry state kind ⌝ }
+{
+    let row = GRID[state as usize];
+    row[kind]
+}
+
+// The same for a slice: in Passive Decoding only as first message since entry.
+pub(crate) fn admits_slice(numbers: Numbers, kind: usize) -> bool
+    requires { ⌜ (numbers .state < 8) × (kind < 7) ⌝ }
+    ensures { λ r. ⌜ r ≡ admitsSlice numbers kind ⌝ }
+{
+    admits(numbers.state, kind) & !((numbers.state == PASSIVE) & !(numbers.first == 1))
+}
+
+// Whether a slice comes in offset order without a gap, with one size, salt and width.
+pub(crate) fn is_placed(numbers: Numbers, size: u32, offset: u32, salt: u32, width: u32) -> bool
+    ensures { λ r. ⌜ r ≡ isPlaced numbers size offset salt width ⌝ }
+{
+    if numbers.state == EXPECTING_LAST {
+        return (offset == 2520)
+            & ((size == numbers.size) & ((salt == numbers.salt) & (width == numbers.width)));
+    }
+    offset == 0
+}

@@ -1,0 +1,211 @@
+// One step of the protocol.
+ghost use mathlib.Core.Path.{_≡_};
+ghost use Rattle.bucket.specs.Columns.{columns};
+ghost use Rattle.filter.specs.Table.{firstEight};
+ghost use Rattle.message.specs.Walking.{exactlyOne};
+ghost use Rattle.session.specs.Calls.{given, left, stepCall};
+ghost use Rattle.session.specs.Judged.{numbersFit, frontBy, ledgerRooms, otherRooms, InForm, ledgerTurn, ledgerTurn′};
+use crate::numbers::Answer;
+use crate::numbers::EXPECTING_LAST;
+use crate::numbers::Numbers;
+use crate::tallying::Tally;
+use message::kinds::Message;
+
+// Takes one message in a state, and answers the next state and what is to be sent. Every slice is lent and comes back; specs/Calls says what each
+// holds after every call, refused ones too.
+pub fn step(
+    numbers: Numbers,
+    table: &[u8],
+    records: &mut [u8],
+    marks: &mut [u8],
+    inquired: &mut [u64],
+    ids: &mut [u64],
+    hashes: &mut [u32],
+    counts: &mut [i64],
+    ours: &mut [u64],
+    theirs: &mut [u64],
+    hash: &[u8],
+    message: &[u8],
+    out: &mut [u8],
+) -> Answer
+    ensures { λ r. ⌜ left r (now (records .exit)) (now (marks .exit)) (now (inquired .exit)) (columns (now (ids .exit)) (now (hashes .exit)) (now (counts .exit))) (now (ours .exit)) (now (theirs .exit)) (now (out .exit))
+        ≡ stepCall firstEight (given numbers (now (table .entry)) (now (records .entry)) (now (marks .entry)) (now (inquired .entry)) (columns (now (ids .entry)) (now (hashes .entry)) (now (counts .entry))) (now (ours .entry)) (now (theirs .entry)) (now (hash .entry)) (now (message .entry)) (now (out .entry))) ⌝ }
+{
+    if !is_good_front(numbers, table, counts) {
+        return crate::numbers::refused(1, numbers);
+    }
+    if !has_ledger_room(records.len(), marks.len(), inquired.len()) {
+        return crate::numbers::refused(2, numbers);
+    }
+    let tally = crate::tallying::judge_ledger(numbers, table, records, marks, inquired);
+    if !tally.good {
+        return crate::numbers::refused(1, numbers);
+    }
+    if !has_other_room(
+        ids.len(),
+        hashes.len(),
+        counts.len(),
+        ours.len(),
+        theirs.len(),
+        hash.len(),
+        out.len(),
+    ) {
+        return crate::numbers::refused(2, numbers);
+    }
+    if 5 < numbers.state {
+        return crate::numbers::refused(5, numbers);
+    }
+    match message::reading::read(message) {
+        Message::Ibf {
+            size,
+            offset,
+            salt,
+            width,
+            count: _,
+        } => crate::filters::on_slice(
+            numbers,
+            message,
+            ids,
+            hashes,
+            counts,
+            size,
+            offset,
+            salt,
+            width,
+        ),
+        Message::IbfLast {
+            size,
+            offset,
+            salt,
+            width,
+            count: _,
+        } => crate::filters::on_last(
+            numbers,
+            table,
+            marks,
+            inquired,
+            ids,
+            hashes,
+            counts,
+            ours,
+            theirs,
+            message,
+            out,
+            size,
+            offset,
+            salt,
+            width,
+        ),
+        m => on_ledger(
+            numbers,
+            table,
+            records,
+            marks,
+            inquired,
+            hash,
+            message,
+            out,
+            m,
+            tally,
+        ),
+    }
+}
+
+// The messages that no columns are needed for.
+fn on_ledger(
+    numbers: Numbers,
+    table: &[u8],
+    records: &mut [u8],
+    marks: &mut [u8],
+    inquired: &[u64],
+    hash: &[u8],
+    message: &[u8],
+    out: &mut [u8],
+    m: Message,
+    tally: Tally,
+) -> Answer
+    requires { ⌜ InForm numbers (now table) (now records) (now marks) (now inquired) (now hash) (now out) tally × (exactlyOne (now message) ≡ m) ⌝ }
+    ensures { λ r. ⌜ ledgerTurn′ r (now (records .exit)) (now (marks .exit)) (now (out .exit))
+        ≡ ledgerTurn numbers (now (table .entry)) (now (records .entry)) (now (marks .entry)) (now (inquired .entry)) (now (hash .entry)) (now (message .entry)) (now (out .entry)) m tally ⌝ }
+{
+    match m {
+        Message::Inquiry { salt, count } => {
+            crate::lists::on_inquiry(numbers, table, records, marks, message, out, salt, count)
+        }
+        Message::Offer { count } => {
+            let c = tally.concerned;
+            crate::lists::on_offer(
+                numbers,
+                table,
+                records,
+                marks,
+                inquired,
+                message,
+                out,
+                count,
+                c,
+            )
+        }
+        Message::Demand { count } => {
+            crate::lists::on_demand(numbers, table, records, marks, message, out, count)
+        }
+        Message::Element { length: _ } => {
+            let came = tally.came;
+            let unmet = tally.unmet;
+            crate::ends::on_element(numbers, table, records, marks, hash, out, came, unmet)
+        }
+        Message::Done => {
+            let unmet = tally.unmet;
+            crate::ends::on_done(numbers, table, records, marks, message, out, unmet)
+        }
+        _ => crate::numbers::aborted(4, numbers),
+    }
+}
+
+// The table, the numbers, and in state 1 the counts laid.
+fn is_good_front(numbers: Numbers, table: &[u8], counts: &[i64]) -> bool
+    ensures { λ r. ⌜ r ≡ frontBy numbers (now (table .entry)) (now (counts .entry)) ⌝ }
+{
+    if !filter::table::is_table(table) {
+        return false;
+    }
+    if !are_numbers(numbers) {
+        return false;
+    }
+    if numbers.state == EXPECTING_LAST {
+        return filter::forms::are_counts(counts, 2520);
+    }
+    true
+}
+
+fn are_numbers(n: Numbers) -> bool
+    ensures { λ r. ⌜ r ≡ numbersFit n ⌝ }
+{
+    (n.first <= 1)
+        & ((n.done <= 1)
+            & ((n.demanded <= 4096)
+                & ((n.inquired <= 4096)
+                    & ((n.state < 8)
+                        & ((n.swaps <= 16) & filter::forms::in_range(n.size, n.salt))))))
+}
+
+fn has_ledger_room(records: usize, marks: usize, inquired: usize) -> bool
+    ensures { λ r. ⌜ r ≡ ledgerRooms records marks inquired ⌝ }
+{
+    (262208 <= records) & ((8192 <= marks) & (4096 <= inquired))
+}
+
+fn has_other_room(
+    ids: usize,
+    hashes: usize,
+    counts: usize,
+    ours: usize,
+    theirs: usize,
+    hash: usize,
+    out: usize,
+) -> bool
+    ensures { λ r. ⌜ r ≡ otherRooms ids hashes counts ours theirs hash out ⌝ }
+{
+    ((4096 <= ids) & ((4096 <= hashes) & (4096 <= counts)))
+        & ((4096 <= ours) & ((4096 <= theirs) & ((64 <= hash) & (295008 <= out))))
+}
