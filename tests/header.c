@@ -204,6 +204,69 @@ static void expect_messages(void)
     expect_sizes();
 }
 
+/* ---- A session ---- */
+
+static uint8_t records[TANDAWIRE_RECORDS_BYTES + 1], marks[TANDAWIRE_MARKS_BYTES + 1], out[TANDAWIRE_OUT_BYTES + 1], hash[TANDAWIRE_HASH_BYTES];
+static uint64_t inquired[ROOM];
+
+/* A step on a table of elements, with one slice shorter by one: 0 for none. */
+static tandawire_stepped take(tandawire_numbers n, size_t elements, int shorter, const uint8_t *message, size_t length)
+{
+    size_t p = TANDAWIRE_SESSION_PLACES, less[11];
+    for (int i = 0; i < 11; i++)
+        less[i] = i == shorter;
+    return tandawire_step(n, table, elements * TANDAWIRE_HASH_BYTES, records, TANDAWIRE_RECORDS_BYTES - less[1], marks, TANDAWIRE_MARKS_BYTES - less[2],
+                          inquired, p - less[3], ids, p - less[4], hashes, p - less[5], counts, p - less[6], ours, p - less[7], theirs, p - less[8], hash,
+                          TANDAWIRE_HASH_BYTES - less[9], message, length, out, TANDAWIRE_OUT_BYTES - less[10]);
+}
+
+static void expect_session(void)
+{
+    static uint8_t filter[TANDAWIRE_OUT_BYTES], done[TANDAWIRE_DONE_BYTES];
+    expect("numbers, bytes", sizeof(tandawire_numbers), 36);
+    expect("answer, bytes", sizeof(tandawire_stepped), 64);
+    tandawire_stepped s = tandawire_start_sender(table, TANDAWIRE_HASH_BYTES, 101, 5, marks, TANDAWIRE_MARKS_BYTES, out, TANDAWIRE_OUT_BYTES);
+    expect("sender, refusal", s.refusal, TANDAWIRE_REFUSED_NONE);
+    expect("sender, state", s.next.state, TANDAWIRE_PASSIVE_DECODING);
+    expect("sender, first", s.next.first, 1);
+    expect("sender, size", s.next.size, 101);
+    expect("sender, salt", s.next.salt, 5);
+    expect("sender, size out of range",
+           tandawire_start_sender(table, 0, TANDAWIRE_MOST_SIZE + 1, 0, marks, TANDAWIRE_MARKS_BYTES, out, TANDAWIRE_OUT_BYTES).refusal,
+           TANDAWIRE_REFUSED_RANGE);
+    expect("sender, short out", tandawire_start_sender(table, 0, 37, 0, marks, TANDAWIRE_MARKS_BYTES, out, TANDAWIRE_OUT_BYTES - 1).refusal,
+           TANDAWIRE_REFUSED_ROOM);
+    expect("receiver, short marks", tandawire_start_receiver(table, 0, marks, TANDAWIRE_MARKS_BYTES - 1).refusal, TANDAWIRE_REFUSED_ROOM);
+    size_t length = s.sent;
+    memcpy(filter, out, length);
+    tandawire_stepped r = tandawire_start_receiver(table, 2 * TANDAWIRE_HASH_BYTES, marks, TANDAWIRE_MARKS_BYTES);
+    expect("receiver, state", r.next.state, TANDAWIRE_EXPECTING_IBF);
+    for (int i = 1; i < 11; i++)
+        expect("step, a slice short", take(r.next, 2, i, filter, length).refusal, TANDAWIRE_REFUSED_ROOM);
+    expect("step, malformed", take(r.next, 2, 0, filter, length - 1).refusal, TANDAWIRE_REFUSED_MALFORMED);
+    expect("step, aborted", take(r.next, 2, 0, filter, length - 1).next.state, TANDAWIRE_ABORTED);
+    r.next.swaps = TANDAWIRE_MOST_SWAPS + 1;
+    expect("step, too many swaps", take(r.next, 2, 0, filter, length).refusal, TANDAWIRE_REFUSED_FORM);
+    r.next.swaps = 0;
+    /* one element of ours: offered, and as nothing is theirs DONE goes with it */
+    r = take(r.next, 2, 0, filter, length);
+    expect("step, refusal", r.refusal, TANDAWIRE_REFUSED_NONE);
+    expect("step, state", r.next.state, TANDAWIRE_ACTIVE_DECODING);
+    expect("step, done", r.next.done, 1);
+    expect("step, sent", r.sent, TANDAWIRE_MESSAGE_HEAD + TANDAWIRE_HASH_BYTES + TANDAWIRE_DONE_BYTES);
+    expect("step, offered", tandawire_message_read(out, TANDAWIRE_MESSAGE_HEAD + TANDAWIRE_HASH_BYTES).kind, TANDAWIRE_OFFER);
+    memcpy(done, out + TANDAWIRE_MESSAGE_HEAD + TANDAWIRE_HASH_BYTES, sizeof done);
+    expect("step, out of turn", take(r.next, 2, 0, filter, length).refusal, TANDAWIRE_REFUSED_OUT_OF_TURN);
+    expect("step, finished", take(r.next, 2, 0, done, sizeof done).next.state, TANDAWIRE_FINISHED);
+    done[67] ^= 1;
+    expect("step, another checksum", take(r.next, 2, 0, done, sizeof done).refusal, TANDAWIRE_REFUSED_CHECKSUM);
+    out[3] = 0x30; /* the OFFER as a DEMAND */
+    memcpy(filter, out, TANDAWIRE_MESSAGE_HEAD + TANDAWIRE_HASH_BYTES);
+    r = take(r.next, 2, 0, filter, TANDAWIRE_MESSAGE_HEAD + TANDAWIRE_HASH_BYTES);
+    expect("step, due", r.due, 1);
+    expect("step, demanded twice", take(r.next, 2, 0, filter, TANDAWIRE_MESSAGE_HEAD + TANDAWIRE_HASH_BYTES).refusal, TANDAWIRE_REFUSED_BREACH);
+}
+
 int main(void)
 {
     const size_t all = (size_t)TANDAWIRE_MOST_ELEMENTS * TANDAWIRE_HASH_BYTES;
@@ -247,5 +310,6 @@ int main(void)
 
     expect_estimators();
     expect_messages();
+    expect_session();
     return 0;
 }

@@ -1,5 +1,4 @@
 -- Where a step is given its form, the messages' functions have what they count on.
-use Prim.Native.Nat.{_<_}
 use native.Mathlib.Omega.{arith}
 use Rattle.session.specs.Calls.{Given}
 use Rattle.session.specs.Judged.{InForm}

@@ -1,7 +1,6 @@
 -- The ways of a step: what is refused before the message is read, and that behind these tests everything is in its form.
-use mathlib.Core.Path.{_≡_, refl, sym, ap, ap₂, _∙_}
+use mathlib.Core.Path.{_≡_, refl, sym, ap, _∙_}
 use mathlib.Core.Bool.{Bool, true, false, _&&_, cond, and-assoc}
-use mathlib.Core.List.{List}
 use Prim.Native.Nat.{ℕ, _+_, _-_, _*_, _≤_, _<_}
 use native.Mathlib.Omega.{arith}
 use borrow.Author.Tests.{le-ltb, lt-ltb}
@@ -16,7 +15,7 @@ use Rattle.message.specs.Walking.{exactlyOne}
 use Rattle.session.specs.Sets.{implies}
 use Rattle.session.specs.Grid.{EXPECTING-LAST}
 use Rattle.session.specs.Form.{goodNumbers}
-use Rattle.session.specs.Calls.{Given, Left, left, answered, sessionOf, readable, goodFront, goodBack, goodForm, hasLedgerRoom, hasRooms, early, unchanged, stepSaid, stepCall}
+use Rattle.session.specs.Calls.{Given, Left, left, answered, sessionOf, readable, goodFront, goodBack, goodForm, hasLedgerRoom, hasRooms, early, stepSaid, stepCall}
 use Rattle.session.specs.Moves.{metCount, common}
 use Rattle.session.specs.Turns.{tallied, goodTally, tallyOf}
 use Rattle.session.specs.Judged.{numbersFit, frontBy, ledgerRooms, otherRooms}

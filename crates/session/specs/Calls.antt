@@ -11,7 +11,7 @@
 -- 64 bytes of the far checksum. `marks`: a mark for each element of the table, and from 4,096 on one for each hash demanded. `inquired`: IDs,
 -- ascending. Places behind what the numbers count are neither judged nor changed.
 -- Assumes nothing.
-use mathlib.Core.Bool.{Bool, true, _&&_, _||_, not, cond}
+use mathlib.Core.Bool.{Bool, _&&_, not, cond}
 use mathlib.Core.List.{List, [], _∷_, _++_}
 use Prim.Native.Nat.{ℕ, _+_, _*_}
 use lib.Dec.{eqb, ltb, leb}
@@ -34,7 +34,7 @@ use Rattle.session.specs.declared.numbers.Numbers.{Numbers}
 use Rattle.session.specs.declared.numbers.Answer.{Answer}
 use Rattle.session.specs.Sets.{implies}
 use Rattle.session.specs.Grid.{EXPECTING, EXPECTING-LAST, PASSIVE, FINISHED, ABORTED}
-use Rattle.session.specs.Session.{Ledger, Session, Outcome, acts, stopped, idsOf, ownFilter, refusal, act, refused}
+use Rattle.session.specs.Session.{Ledger, Session, Outcome, acts, idsOf, ownFilter, refusal, act, refused}
 use Rattle.session.specs.Form.{goodNumbers, goodLedger}
 use Rattle.session.specs.Memory.{bit, Memory, allBelow, decode, marksOf, flagsOf}
 

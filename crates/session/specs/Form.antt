@@ -8,7 +8,7 @@
 use mathlib.Core.Bool.{Bool, not, _&&_, _||_}
 use mathlib.Core.List.{List, [], _∷_, _++_}
 use Prim.Native.Nat.{ℕ}
-use lib.Dec.{eqb, ltb, leb}
+use lib.Dec.{ltb, leb}
 use Rattle.filter.specs.Lists.{ascending, distinct}
 use Rattle.filter.specs.Calls.{inRange}
 use Rattle.session.specs.Sets.{isNil, within, count, every, implies, same}

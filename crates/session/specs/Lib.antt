@@ -1,4 +1,4 @@
--- The definitions of the crate `session`, in the order in which a reader meets them.
+-- The definitions of the crate `session`, in the order in which a reader meets them. Those behind Calls are cited by private contracts alone.
 pub mod Sets
 pub mod Grid
 pub mod Session

@@ -1,5 +1,5 @@
 -- What private functions compute, in the code's own shape, on lists: cited by their contracts alone. Nothing here is to be believed:
--- laws (proofs/*Moves) tie each move to `Session` and `Memory`.
+-- laws (proofs/*Tie) tie what is made of them to `Session` and `Memory`.
 --
 -- t and K are the hashes of the table and those demanded, M the marks, place by place: a table's element i at i, a demanded hash j at 4,096 + j.
 use mathlib.Core.Bool.{Bool, true, false, not, _&&_, _||_, cond}

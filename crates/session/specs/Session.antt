@@ -16,7 +16,7 @@ use Prim.Native.Nat.{ℕ, suc, _+_, _*_, min}
 use lib.Bits.{bitXor}
 use lib.Dec.{eqb, ltb, leb}
 use lib.IntN.{pos}
-use lib.ListN.{length, take, replicate}
+use lib.ListN.{take, replicate}
 use Rattle.bucket.specs.Bucket.{𝟎}
 use Rattle.bucket.specs.Columns.{Columns, columns, view}
 use Rattle.bucket.specs.Lists.{elem}

@@ -1,5 +1,5 @@
 -- What each message's function computes, in the code's own shape: cited by private contracts alone. Nothing here is to be believed: laws
--- (proofs/*Turn) show that each turn is what `Calls` says of its message.
+-- (proofs/*Tie) show that each turn is what `Calls` says of its message.
 use mathlib.Core.Bool.{Bool, true, false, not, _&&_, _||_, cond}
 use mathlib.Core.List.{List, [], _∷_, _++_, map, foldr}
 use Prim.Native.Nat.{ℕ, _+_, _-_}

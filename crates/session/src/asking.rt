@@ -1,5 +1,4 @@
 // INQUIRY and DEMAND: every item of a message judged and marked, on a copy of the marks.
-ghost use mathlib.Core.Path.{_≡_};
 ghost use mathlib.Core.List.{[]};
 ghost use Prim.Native.Nat.{_+_, _*_, _≤_};
 ghost use lib.ListN.{length};

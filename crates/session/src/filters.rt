@@ -101,7 +101,7 @@ pub(crate) fn on_last(
             f.theirs,
         );
     }
-    let next = crate::numbers::swapped(numbers, size, salt);
+    let next = crate::swapping::swapped(numbers, size, salt);
     let sent = crate::sending::send_filter(table, next.size, next.salt, out);
     Answer {
         refusal: f.refusal,

@@ -15,4 +15,5 @@ mod places;
 mod sending;
 pub mod starting;
 pub mod stepping;
+mod swapping;
 mod tallying;

@@ -1,9 +1,7 @@
 // The numbers of a session, lent and handed back by value; what a call answers; and the numbers of document 01 by name.
 ghost use mathlib.Core.Path.{_≡_};
-ghost use Prim.Native.Nat.{_≤_, _<_};
-ghost use Rattle.session.specs.Session.{nextSize, nextSalt};
 ghost use Rattle.session.specs.Calls.{answered, inState};
-ghost use Rattle.session.specs.Turns.{aborted, onward, withDemanded, closed, slicedNumbers, openedNumbers, swappedNumbers};
+ghost use Rattle.session.specs.Turns.{aborted, onward, withDemanded, closed, slicedNumbers, openedNumbers};
 
 // The states (document 01, "The session").
 pub const EXPECTING: u32 = 0;
@@ -147,38 +145,4 @@ pub(crate) fn opened(
     numbers.done = done;
     numbers.inquired = inquired;
     numbers
-}
-
-// Own filter due at salt + 1 (63 goes to 0) and twice the size, at most 4,096.
-pub(crate) fn swapped(mut numbers: Numbers, size: u32, salt: u32) -> Numbers
-    requires { ⌜ (size ≤ 4096) × (salt < 64) × (numbers .swaps < 16) ⌝ }
-    ensures { λ r. ⌜ r ≡ swappedNumbers numbers size salt ⌝ }
-{
-    numbers.state = PASSIVE;
-    numbers.first = 1;
-    numbers.size = next_size(size);
-    numbers.salt = next_salt(salt);
-    numbers.width = 0;
-    numbers.swaps = numbers.swaps + 1;
-    numbers
-}
-
-fn next_size(size: u32) -> u32
-    requires { ⌜ size ≤ 4096 ⌝ }
-    ensures { λ r. ⌜ r ≡ nextSize size ⌝ }
-{
-    if 2048 < size {
-        return 4096;
-    }
-    2 * size
-}
-
-fn next_salt(salt: u32) -> u32
-    requires { ⌜ salt < 64 ⌝ }
-    ensures { λ r. ⌜ r ≡ nextSalt salt ⌝ }
-{
-    if salt == 63 {
-        return 0;
-    }
-    salt + 1
 }

@@ -1,9 +1,9 @@
--- `numbers::next_salt` meets its contract: it makes the definition's test. Assumes nothing.
+-- `swapping::next_salt` meets its contract: it makes the definition's test. Assumes nothing.
 use borrow.Author.Needs.{needs}
 use borrow.Author.Tests.{eq-eqb, ne-eqb}
 use Rattle.session.specs.Session.{nextSalt}
-use Rattle.session.proofs.numbers.next_salt.Statement.{statement}
-use Rattle.session.proofs.numbers.next_salt.Tie as tie
+use Rattle.session.proofs.swapping.next_salt.Statement.{statement}
+use Rattle.session.proofs.swapping.next_salt.Tie as tie
 
 returns : tie.Need-returns
 unfolding nextSalt

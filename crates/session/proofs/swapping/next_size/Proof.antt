@@ -1,10 +1,10 @@
--- `numbers::next_size` meets its contract: the smaller of twice the size and 4,096. Assumes nothing.
+-- `swapping::next_size` meets its contract: the smaller of twice the size and 4,096. Assumes nothing.
 use native.Mathlib.Omega.{arith}
 use borrow.Author.Needs.{needs}
 use borrow.Author.Tests.{ltb-true, ltb-false}
 use Rattle.session.specs.Session.{nextSize}
-use Rattle.session.proofs.numbers.next_size.Statement.{statement}
-use Rattle.session.proofs.numbers.next_size.Tie as tie
+use Rattle.session.proofs.swapping.next_size.Statement.{statement}
+use Rattle.session.proofs.swapping.next_size.Tie as tie
 
 returns : tie.Need-returns
 unfolding nextSize

@@ -1,7 +1,7 @@
--- `numbers::swapped` meets its contract: the next size, the next salt, and one swap more. Assumes nothing.
+-- `swapping::swapped` meets its contract: the next size, the next salt, and one swap more. Assumes nothing.
 use borrow.Author.Needs.{needs}
-use Rattle.session.proofs.numbers.swapped.Statement.{statement}
-use Rattle.session.proofs.numbers.swapped.Tie as tie
+use Rattle.session.proofs.swapping.swapped.Statement.{statement}
+use Rattle.session.proofs.swapping.swapped.Tie as tie
 
 next-size-requires : tie.Need-next-size-requires
 next-size-requires c κs = search needs
