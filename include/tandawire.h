@@ -262,6 +262,7 @@ tandawire_stepped tandawire_start_sender(const uint8_t *table, size_t table_leng
  *   out       TANDAWIRE_OUT_BYTES; what lies behind what is written is not touched
  *
  * Elements held are those of the table, and the hashes demanded whose mark has bit 8. In TANDAWIRE_FINISHED both ends hold the same.
+ * A step needs up to 0.7 MB of stack.
  * Refusals 1 and 2 change nothing, not even the state; 5 in a session that has ended likewise. 4, 5, 7, 8, 9 and 10 abort the session and leave the ledger
  * as it was; 9, and 10 after a reading, make columns and lists zero in the places of the filter read. With 6 the session swaps and goes on: what was sent is
  * its own filter. */
