@@ -1,11 +1,11 @@
 -- What the tests say of a message that is acted on, and what a refusal leaves. Assumes nothing.
 use mathlib.Core.Path.{_≡_, refl}
-use mathlib.Core.Bool.{Bool, true, false, _&&_, _||_, cond, true≢false, false≢true}
-use mathlib.Core.List.{List, _∷_}
-use Prim.Native.Nat.{ℕ, _≤_, _<_}
+use mathlib.Core.Bool.{Bool, true, false, _&&_, _||_, cond, true≢false, false≢true, and-false}
+use mathlib.Core.List.{List, [], _∷_}
+use Prim.Native.Nat.{ℕ, suc, _≤_, _<_}
 use native.Mathlib.Omega.{arith}
 use lib.Dec.{eqb}
-use borrow.Author.Tests.{leb-true, ltb-true}
+use borrow.Author.Tests.{eq-eqb, leb-true, ltb-true}
 use Rattle.filter.specs.Calls.{Read}
 use Rattle.message.specs.Layout.{Content, slice, inquiry, offer, demand, element, done, sliceGood}
 use Rattle.message.proofs.ReadLaws.{both}
@@ -38,6 +38,18 @@ pub fault : (n : ℕ) (a : Bool) (l : List (ℕ × Bool)) → acts n ≡ false �
 unfolding firstFault
 fault n true l k e = absurd (clash e k)
 fault n false l k e = (refl, e)
+
+-- a test of this number answers yes
+unfoldable pub occurs : ℕ → List (ℕ × Bool) → Bool
+occurs n [] = false
+occurs n (f ∷ l) = (eqb (f .0) n && f .1) || occurs n l
+
+-- as it does where a message is refused by this number
+first-occurs : (n : ℕ) (l : List (ℕ × Bool)) → firstFault l ≡ suc n → occurs (suc n) l ≡ true
+unfolding firstFault occurs
+first-occurs n [] e = absurd (omega arith)
+first-occurs n ((m, true) ∷ l) e = rw (eq-eqb m (suc n) e)
+first-occurs n ((m, false) ∷ l) e = rw (and-false (eqb m (suc n)), first-occurs n l e)
 
 -- the ranges of a slice
 pub record Ranges (size salt : ℕ) : Type 0 where
@@ -81,6 +93,15 @@ module _ (derive : ℕ → ℕ) (t : List ℕ) where
       go : (a : Bool) (n : ℕ) → acts (cond a n 5) ≡ true → (a ≡ true) × (acts n ≡ true)
       go true n e = (refl, e)
       go false n e = absurd (false≢true e)
+
+  -- 6 is a test's answer: the grid's is 5
+  pub six-occurs : (h : ℕ) (s : Session) (c : Content) → refusal derive t h s c ≡ 6 → occurs 6 (faults derive t h s c) ≡ true
+  unfolding refusal
+  six-occurs h s c = go (admitted s c)
+    where
+      go : (a : Bool) → cond a (firstFault (faults derive t h s c)) 5 ≡ 6 → occurs 6 (faults derive t h s c) ≡ true
+      go true e = first-occurs 5 (faults derive t h s c) e
+      go false e = absurd (omega arith)
 
   halted-ended : (s : Session) → Ended s (halted derive t s)
   halted-ended s = record { state = refl; first = refl; size = refl; salt = refl; width = refl; swaps = refl; far = refl; ledger = refl }

@@ -14,7 +14,7 @@ use Rattle.bucket.proofs.TestLaws.{and-holds}
 use Rattle.filter.specs.declared.answers.Refusal.the-variants.{None}
 use Rattle.filter.specs.declared.answers.Verdict.{Verdict}
 use Rattle.filter.specs.declared.answers.Verdict.the-variants.{Complete, Stuck, False}
-use Rattle.filter.specs.Calls.{inRange, areCounts, hasRoom, readRefusal, Read, readWith, readCall}
+use Rattle.filter.specs.Calls.{inRange, areCounts, hasRoom, readRefusal, Read, readFalse, readWith, readCall}
 use Rattle.filter.specs.Filter.{Item, ours, theirs, oursOf, theirsOf, Rule, filterRule, difference}
 use Rattle.filter.specs.Peeling.{Outcome, reading, fits, verdict}
 use Rattle.filter.specs.Table.{hashesOf, isTable}
@@ -22,7 +22,7 @@ use Rattle.filter.proofs.GrantedLaws.{granted-read, listed-back}
 use Rattle.filter.proofs.SelectLaws.{elem-reverse, distinct-reverse}
 use Rattle.filter.proofs.SideLaws.{distinct-ours, distinct-theirs}
 use Rattle.filter.proofs.SoundLaws.{verdict-complete, reading-distinct}
-use Rattle.session.specs.Session.{isComplete, oursIn, theirsIn, idsOf, readingAt}
+use Rattle.session.specs.Session.{isComplete, isFalse, oursIn, theirsIn, idsOf, readingAt}
 use Rattle.session.proofs.SetLaws.{_∈_, _⊆_, clash, and-l, and-r, not-in-nil}
 use Rattle.session.proofs.ListLaws.{Apart}
 
@@ -49,6 +49,16 @@ fits-theirs t (ours a ∷ l) f x e = fits-theirs t l (and-r (elem a t) (fits t l
 fits-theirs t (theirs a ∷ l) f x e =
     elem-cases (λ (z : ℕ). z ∈ t → ⊥) x a (theirsOf l) e (λ k. clash k (not-true (elem a t) (and-l (not (elem a t)) (fits t l) f)))
     (fits-theirs t l (and-r (not (elem a t)) (fits t l) f) x)
+
+-- ---- a reading by its verdict
+
+-- only a false one answers 6
+only-false : (v : Verdict) (size : ℕ) (r : Outcome) (c : Columns) (o th : List ℕ)
+    → isFalse (readWith v size r c o th) ≡ true → readWith v size r c o th ≡ readFalse size c o th
+unfolding readWith
+only-false Complete size r c o th e = absurd (false≢true e)
+only-false Stuck size r c o th e = absurd (false≢true e)
+only-false False size r c o th e = refl
 
 module _ (derive : ℕ → ℕ) (t : List ℕ) (size salt : ℕ) (c : Columns) (o th : List ℕ) where
   pub read-law : isComplete (readingAt derive t size salt c o th) ≡ true → ReadLaw (idsOf derive t) (readingAt derive t size salt c o th)
@@ -95,6 +105,11 @@ module _ (derive : ℕ → ℕ) (t : List ℕ) (size salt : ℕ) (c : Columns) (
       go Complete r e = refl
       go Stuck r e = absurd (false≢true e)
       go False r e = absurd (false≢true e)
+
+  -- a false one leaves columns and lists zero, in the first size places
+  pub false-cleared : isFalse (readingAt derive t size salt c o th) ≡ true → readingAt derive t size salt c o th ≡ readFalse size c o th
+  unfolding readingAt
+  false-cleared = only-false _ size _ c o th
 
 -- ---- the reading is filter's
 

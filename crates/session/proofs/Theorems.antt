@@ -1,17 +1,18 @@
 -- What a reader looks for in the session's definition, each under document 01's words. Assumes nothing.
 use mathlib.Core.Path.{_≡_, refl, sym, subst, _∙_}
 use mathlib.Core.Logic.{_≢_, _⊎_, inl, inr}
-use mathlib.Core.Bool.{Bool, true, false, _||_, cond}
+use mathlib.Core.Bool.{Bool, true, false, _&&_, _||_, cond, false≢true, or-false}
 use mathlib.Core.List.{List, [], _∷_, _++_}
-use Prim.Native.Nat.{ℕ, _≤_, _<_, _^_}
+use Prim.Native.Nat.{ℕ, suc, _≤_, _<_, _^_}
 use native.Mathlib.Omega.{arith}
 use lib.Dec.{eqb, leb}
 use lib.ListN.{length}
 use borrow.Author.Tests.{eqb-true, eqb-false}
+use Rattle.bucket.specs.Bucket.{𝟎}
 use Rattle.bucket.specs.Columns.{Columns, view}
 use Rattle.bucket.specs.Lists.{elem, Distinct}
 use Rattle.filter.specs.declared.answers.Refusal.the-variants.{None}
-use Rattle.filter.specs.Calls.{inRange, areCounts, hasRoom, readRefusal, Read, readCall}
+use Rattle.filter.specs.Calls.{inRange, areCounts, hasRoom, filled, listedInto, readRefusal, Read, readCall}
 use Rattle.filter.specs.Filter.{filterRule, filterOf}
 use Rattle.filter.specs.Lists.{minus}
 use Rattle.filter.specs.Stopping.{differing, Clear, Exactly}
@@ -20,14 +21,14 @@ use Rattle.filter.proofs.Demand3.{complete-trusted, reads-exactly}
 use Rattle.message.specs.Layout.{Content, slice, inquiry, offer, demand, element, done, Good}
 use Rattle.message.specs.Laying.{laid}
 use Rattle.session.specs.Sets.{insert}
-use Rattle.session.specs.Grid.{CLOSING, isLast}
-use Rattle.session.specs.Session.{Ledger, Session, «in», isSlice, unmet, isComplete, oursIn, theirsIn, acts, idsOf, held, readOf, refusal, cleared, halted, refused, step}
+use Rattle.session.specs.Grid.{PASSIVE, CLOSING, isLast}
+use Rattle.session.specs.Session.{Ledger, Session, «in», isSlice, unmet, answer, nextSalt, nextSize, isComplete, isFalse, oursIn, theirsIn, ownFilter, acts, idsOf, held, readOf, faults, refusal, swapped, onSlice, act, cleared, halted, refused, step}
 use Rattle.session.specs.Form.{goodNumbers, goodLedger}
-use Rattle.session.proofs.SetLaws.{_⊆_, _∈_, clash, in-insert, Asc}
+use Rattle.session.proofs.SetLaws.{_⊆_, _∈_, clash, and-l, and-r, in-insert, Asc}
 use Rattle.session.proofs.BookLaws.{Table, Form, table-of, form-of, of-form}
 use Rattle.session.proofs.GridLaws.{slice-kind, ended-admits}
-use Rattle.session.proofs.FaultLaws.{Ended, refused-ended}
-use Rattle.session.proofs.ReadingLaws.{granted, reading-granted, complete-clean}
+use Rattle.session.proofs.FaultLaws.{occurs, six-occurs, Ended, refused-ended}
+use Rattle.session.proofs.ReadingLaws.{granted, reading-granted, complete-clean, false-cleared}
 use Rattle.session.proofs.FormKept.{kept-step}
 use Rattle.session.proofs.ChangeLaws.{gained-step, held-insert, held-same, open-step}
 
@@ -85,6 +86,49 @@ module _ (derive : ℕ → ℕ) (t : List ℕ) where
       refused derive t n s c ≡ cleared derive t s (readOf derive t s c size salt) size
   unfolding refused
   refusal-cleared n s size offset salt width ids hashes counts e = rw e
+
+  -- 6, "a filter's reading false", is of a slice alone
+  pub false-slice : (h : ℕ) (s : Session) (c : Content) → refusal derive t h s c ≡ 6 → isSlice c ≡ true
+  unfolding faults occurs
+  false-slice h s c e = go c (six-occurs derive t h s c e)
+    where
+      go : (c : Content) → occurs 6 (faults derive t h s c) ≡ true → isSlice c ≡ true
+      go (slice size offset salt width ids hashes counts) o = slice-kind (isLast size offset)
+      go (inquiry salt xs) o = absurd (false≢true o)
+      go (offer hs) o = absurd (false≢true o)
+      go (demand hs) o = absurd (false≢true o)
+      go (element bytes) o = absurd (false≢true o)
+      go (done check) o = absurd (false≢true o)
+
+  -- "columns and lists all zero; the session swaps": zero in the places of the filter read, and behind them as the laying left them; state 3, one swap
+  -- more, our filter sent at salt + 1 (63 goes to 0) and twice the size, at most 4,096; the ledger stays
+  pub refusal-false : (h : ℕ) (s : Session) (size offset salt width : ℕ) (ids hashes counts : List ℕ)
+      → let c = slice size offset salt width ids hashes counts in
+      refusal derive t h s c ≡ 6
+      → step derive t h s c
+      ≡ answer
+      (record {
+        state = PASSIVE;
+        first = true;
+        size = nextSize size;
+        salt = nextSalt salt;
+        width = 0;
+        swaps = suc (s .swaps);
+        far = s .far;
+        columns = filled size (λ i. 𝟎) (laid c (s .columns));
+        ours = listedInto size [] (s .ours);
+        theirs = listedInto size [] (s .theirs);
+        ledger = s .ledger;
+      })
+      (ownFilter (idsOf derive t) (nextSize size) (nextSalt salt))
+  unfolding step act onSlice swapped faults occurs
+  refusal-false h s size offset salt width ids hashes counts e =
+      let c : Content = slice size offset salt width ids hashes counts in
+      let w : Bool = isLast size offset in
+      let o : w && isFalse (readOf derive t s c size salt) ≡ true = rw or-false at (six-occurs derive t h s c e) in
+      let whole : isLast size offset ≡ true = and-l w _ o in
+      let zero = false-cleared derive t size salt (laid c (s .columns)) (s .ours) (s .theirs) (and-r w _ o) in
+      rw (e, whole, zero)
 
   -- 5: "states 6 and 7 stay"
   pub ended-stays : (h : ℕ) (s : Session) (c : Content) → 6 ≤ s .state → s .state < 8
