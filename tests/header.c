@@ -1,9 +1,6 @@
-/* Every constant of include/tandawire.h, held to what the compiled library does. Compiles as C11 and as C++17; silent, exit 0, if all agree. */
-#include "../include/tandawire.h"
-
-#include <stdio.h>
-#include <stdlib.h>
-#include <string.h>
+/* The constants of include/tandawire.h, held to what the compiled library does; tests/session.c has those of a session's memory, and the layout of every
+ * struct. Compiles as C11 and as C++17; silent, exit 0, if all agree. */
+#include "expect.h"
 
 enum { ROOM = TANDAWIRE_MOST_SIZE + 1 };
 
@@ -11,22 +8,6 @@ static uint8_t table[(TANDAWIRE_MOST_ELEMENTS + 1) * TANDAWIRE_HASH_BYTES];
 static uint64_t ids[ROOM], ours[ROOM], theirs[ROOM];
 static uint32_t hashes[ROOM];
 static int64_t counts[ROOM];
-
-static void expect(const char *what, size_t got, size_t wanted)
-{
-    if (got != wanted) {
-        fprintf(stderr, "header: %s: got %zu, wanted %zu\n", what, got, wanted);
-        exit(1);
-    }
-}
-
-/* The hashes 0, 1, 2, .. by their first eight bytes. */
-static void fill_table(void)
-{
-    for (size_t i = 0; i <= TANDAWIRE_MOST_ELEMENTS; i++)
-        for (int b = 0; b < 8; b++)
-            table[i * TANDAWIRE_HASH_BYTES + (size_t)b] = (uint8_t)((uint64_t)i >> (56 - 8 * b));
-}
 
 static uint32_t build_filter(size_t bytes, size_t room, uint32_t size, uint32_t salt)
 {
@@ -270,7 +251,8 @@ static void expect_session(void)
 int main(void)
 {
     const size_t all = (size_t)TANDAWIRE_MOST_ELEMENTS * TANDAWIRE_HASH_BYTES;
-    fill_table();
+    test = "header";
+    put_table(table, 0, TANDAWIRE_MOST_ELEMENTS + 1);
 
     expect("build, most elements", build_filter(all, ROOM, TANDAWIRE_MOST_SIZE, 0), TANDAWIRE_REFUSED_NONE);
     expect("build, one element more", build_filter(all + TANDAWIRE_HASH_BYTES, ROOM, TANDAWIRE_MOST_SIZE, 0), TANDAWIRE_REFUSED_FORM);

@@ -4,3 +4,4 @@ pub mod estimators;
 pub mod filters;
 pub mod messages;
 pub mod sessions;
+pub mod versions;
