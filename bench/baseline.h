@@ -231,61 +231,73 @@ static inline int counts_are_wide(const int64_t *counts, size_t room, size_t siz
     return wide != 0;
 }
 
+/* What a reading lists, and how many. */
+struct lists {
+    uint64_t *ours, *theirs;
+    size_t ours_number, theirs_number;
+};
+
+/* Lists what can be peeled off the difference in the columns, without the salt. Never inlined, so
+ * that its instructions can be counted alone, as those of the library's peeling are. */
+__attribute__((noinline)) enum peel c_peel(struct reading *r, struct lists *l, uint64_t *ids,
+                                           uint32_t *hashes, int64_t *counts, uint32_t size,
+                                           uint32_t salt)
+{
+    enum peel end;
+    uint64_t id;
+    int64_t count;
+    begin_reading(r, ids, hashes, counts, size);
+    while ((end = peel(r, l->ours_number + l->theirs_number, &id, &count)) == PEELED)
+        if (count == 1)
+            l->ours[l->ours_number++] = rotated_right(id, -(salt * 7));
+        else
+            l->theirs[l->theirs_number++] = rotated_right(id, -(salt * 7));
+    return end;
+}
+
+/* Whether a complete reading lists as ours what is in our table, and as theirs what is not. */
+static int fits_table(const struct lists *l, const uint8_t *table, size_t number)
+{
+    for (size_t i = 0; i < l->ours_number; i++)
+        if (!in_table(table, number, l->ours[i]))
+            return 0;
+    for (size_t i = 0; i < l->theirs_number; i++)
+        if (in_table(table, number, l->theirs[i]))
+            return 0;
+    return 1;
+}
+
 tandawire_reading c_read(const uint8_t *table, size_t length, uint64_t *ids, size_t ids_room,
                          uint32_t *hashes, size_t hashes_room, int64_t *counts,
                          size_t counts_room, uint64_t *ours, size_t ours_room, uint64_t *theirs,
                          size_t theirs_room, uint32_t size, uint32_t salt)
 {
     struct reading r;
-    tandawire_reading answer = {1, 0, 0, 0};
+    struct lists l = {ours, theirs, 0, 0};
     size_t number = length / HASH;
-    enum peel end;
-    uint64_t id;
-    int64_t count;
-
     if (!is_table(table, length) || counts_are_wide(counts, counts_room, size))
-        return answer;
-    answer.refusal = 3;
+        return (tandawire_reading){1, 0, 0, 0};
     if (size < LEAST || size > MOST || salt >= SALTS)
-        return answer;
-    answer.refusal = 2;
+        return (tandawire_reading){3, 0, 0, 0};
     if (ids_room < size || hashes_room < size || counts_room < size || ours_room < size ||
         theirs_room < size)
-        return answer;
+        return (tandawire_reading){2, 0, 0, 0};
 
     prepare_reading(&r);
     for (uint32_t b = 0; b < size; b++)
         counts[b] = -counts[b];
     add_table(r.t, table, number, ids, hashes, counts, size, salt);
-    begin_reading(&r, ids, hashes, counts, size);
-    while ((end = peel(&r, answer.ours + answer.theirs, &id, &count)) == PEELED)
-        if (count == 1)
-            ours[answer.ours++] = rotated_right(id, -(salt * 7));
-        else
-            theirs[answer.theirs++] = rotated_right(id, -(salt * 7));
-    if (end == PEELED_FALSELY)
-        goto is_false;
-
-    answer.complete = is_zero(ids, hashes, counts, size);
-    if (answer.complete) {
-        for (size_t i = 0; i < answer.ours; i++)
-            if (!in_table(table, number, ours[i]))
-                goto is_false;
-        for (size_t i = 0; i < answer.theirs; i++)
-            if (in_table(table, number, theirs[i]))
-                goto is_false;
+    enum peel end = c_peel(&r, &l, ids, hashes, counts, size, salt);
+    int complete = end == NONE_PURE && is_zero(ids, hashes, counts, size);
+    if (end == PEELED_FALSELY || (complete && !fits_table(&l, table, number))) {
+        clear(ids, hashes, counts, size);
+        memset(ours, 0, size * sizeof *ours);
+        memset(theirs, 0, size * sizeof *theirs);
+        return (tandawire_reading){6, 0, 0, 0};
     }
-    memset(ours + answer.ours, 0, (size - answer.ours) * sizeof *ours);
-    memset(theirs + answer.theirs, 0, (size - answer.theirs) * sizeof *theirs);
-    answer.refusal = 0;
-    return answer;
-
-is_false:
-    clear(ids, hashes, counts, size);
-    memset(ours, 0, size * sizeof *ours);
-    memset(theirs, 0, size * sizeof *theirs);
-    answer = (tandawire_reading){6, 0, 0, 0};
-    return answer;
+    memset(ours + l.ours_number, 0, (size - l.ours_number) * sizeof *ours);
+    memset(theirs + l.theirs_number, 0, (size - l.theirs_number) * sizeof *theirs);
+    return (tandawire_reading){0, (uint32_t)complete, l.ours_number, l.theirs_number};
 }
 
 #endif

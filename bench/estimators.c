@@ -1,5 +1,5 @@
-/* Nanoseconds per call of the library's building of an estimator and of its estimating, and of
- * plain C beside them. How it is used stands in jobs.h.
+/* Building an estimator and estimating by the library, and by plain C beside it. How it is used
+ * stands in jobs.h.
  *
  * Both sides get the same memory and do all of the work: the form of what they are given, the
  * CRC tables (made in each call), the subtraction and the peels.
@@ -164,6 +164,37 @@ static int stratum_is_zero(const struct columns *c, uint32_t stratum)
     return is_zero(c->ids + from, c->hashes + from, c->counts + from, BUCKETS);
 }
 
+/* Whether both sides are stuck at stratum 3, with three IDs listed above it. */
+static int stuck_at_3(void)
+{
+    return answers(whole, 0, 48) && !stratum_is_zero(&left[0].first, 3);
+}
+
+/* Something left in stratum 3, in one column alone. */
+static int one_column_agrees(void)
+{
+    struct columns *c = &given.first;
+    const uint32_t at = 3 * BUCKETS + 5;
+    c->ids[at] ^= 1;
+    if (!stuck_at_3())
+        return 0;
+    c->ids[at] ^= 1;
+    c->hashes[at] ^= 1;
+    if (!stuck_at_3())
+        return 0;
+    c->hashes[at] ^= 1;
+    for (int i = 0; i < 2; i++) {
+        /* Counts as far apart as they may be. */
+        c = i == 0 ? &given.first : &given.second;
+        int64_t count = c->counts[at];
+        c->counts[at] = UINT32_MAX;
+        if (!stuck_at_3())
+            return 0;
+        c->counts[at] = count;
+    }
+    return 1;
+}
+
 /* Estimators no table makes, each with its answer. */
 static int tampered_agree(void)
 {
@@ -178,26 +209,8 @@ static int tampered_agree(void)
     plant(&given.second, 7, id, 0);
     if (!answers(whole, 0, 3))
         return 0;
-    /* Something left in stratum 3, in one column alone: stuck. */
-    struct columns *c = &given.first;
-    const uint32_t at = 3 * BUCKETS + 5;
-    c->ids[at] ^= 1;
-    if (!answers(whole, 0, 48) || stratum_is_zero(&left[0].first, 3))
+    if (!one_column_agrees())
         return 0;
-    c->ids[at] ^= 1;
-    c->hashes[at] ^= 1;
-    if (!answers(whole, 0, 48) || stratum_is_zero(&left[0].first, 3))
-        return 0;
-    c->hashes[at] ^= 1;
-    for (int i = 0; i < 2; i++) {
-        /* Counts as far apart as they may be. */
-        c = i == 0 ? &given.first : &given.second;
-        int64_t count = c->counts[at];
-        c->counts[at] = UINT32_MAX;
-        if (!answers(whole, 0, 48) || stratum_is_zero(&left[0].first, 3))
-            return 0;
-        c->counts[at] = count;
-    }
     /* A lone ID is listed again at its other places: false, left zero; stratum 2 is not read. */
     plant(&given.second, 3, draw(), 1);
     plant(&given.second, 2, draw(), 0);
@@ -260,12 +273,10 @@ static int rows_agree(void)
     return 1;
 }
 
-/* Each thing that is refused, and each pair of them where the order decides. */
-static int refusals_agree(void)
+/* Buffers one too short, with and without a COUNT out of range, and just enough. */
+static int rooms_agree(void)
 {
     size_t room[6];
-    make(&tables, 200, 1, 1);
-    receive();
     for (int i = 0; i < 6; i++) {
         memcpy(room, whole, sizeof room);
         room[i] = PLACES - 1;
@@ -284,6 +295,18 @@ static int refusals_agree(void)
         if (!answers(room, 0, 2) || !builds(room, 0))
             return 0;
     }
+    return 1;
+}
+
+/* Each thing that is refused, and each pair of them where the order decides: the last table is
+ * empty and good, those before are none. */
+static int refusals_agree(void)
+{
+    size_t room[6] = {PLACES, ROOM, ROOM, ROOM, ROOM, ROOM};
+    make(&tables, 200, 1, 1);
+    receive();
+    if (!rooms_agree())
+        return 0;
     for (int i = 0; i < 5; i++) {
         make(&tables, i == 1 ? MOST - 9 : 200, 10, 0);
         tables.ours_length -= i == 0;
@@ -312,14 +335,17 @@ static int check(void)
 
 /* ---- The jobs ---- */
 
+/* The limits are those of the landing that brought estimators, about a quarter above what was
+ * measured then. */
+#define ESTIMATE(ours, theirs, limit)                                                          \
+    {"estimate_" #ours "_" #theirs, "estimate " #ours " + " #theirs, "tandawire_estimate",     \
+     "c_estimate", 0, 4096 - ours, ours, theirs, limit, 0}
+
 static const struct job jobs[] = {
-    {"build", "estimator_build", "build 4096", 0, 4096, 0, 0},
-    {"estimate_0", "estimate", "estimate 0", 0, 4096, 0, 0},
-    {"estimate_10", "estimate", "estimate 5 + 5", 0, 4091, 5, 5},
-    {"estimate_100", "estimate", "estimate 50 + 50", 0, 4046, 50, 50},
-    {"estimate_1000", "estimate", "estimate 1000 + 0", 0, 3096, 1000, 0},
-    {"estimate_500_500", "estimate", "estimate 500 + 500", 0, 3596, 500, 500},
-    {"estimate_4096_4096", "estimate", "estimate 4096 + 4096", 0, 0, 4096, 4096},
+    {"build", "build the estimator of 4096", "tandawire_estimator_build", "c_estimator_build", 0,
+     4096, 0, 0, 1000000, 0},
+    ESTIMATE(0, 0, 200000),      ESTIMATE(5, 5, 210000),      ESTIMATE(50, 50, 260000),
+    ESTIMATE(1000, 0, 230000),   ESTIMATE(500, 500, 250000),  ESTIMATE(4096, 4096, 235000),
 };
 
 static int is_build(const struct job *job)
@@ -330,18 +356,18 @@ static int is_build(const struct job *job)
 /* The C must answer what the library did. */
 static double time_of(const struct job *job, int side, uint32_t n)
 {
-    static tandawire_estimation answer[2];
+    static tandawire_estimation e[2];
     struct timespec a, b;
     (void)n;
     left[side] = given;
     clock_gettime(CLOCK_MONOTONIC, &a);
     if (is_build(job))
-        answer[side].refusal = build(side, tables.ours, tables.ours_length, &left[side].first,
+        e[side].refusal = build(side, tables.ours, tables.ours_length, &left[side].first,
                                      whole);
     else
-        answer[side] = estimate(side, &left[side], whole);
+        e[side] = estimate(side, &left[side], whole);
     clock_gettime(CLOCK_MONOTONIC, &b);
-    if (answer[side].refusal != 0 || (side == 1 && answer[0].estimate != answer[1].estimate))
+    if (e[side].refusal != 0 || (side == 1 && e[0].estimate != e[1].estimate))
         return -1;
     return nanoseconds(a, b);
 }
@@ -361,7 +387,7 @@ static void prepare(const struct job *job, uint32_t n)
 int main(int argc, char **argv)
 {
     static const struct program program = {
-        "estimators", jobs, sizeof jobs / sizeof jobs[0], check, prepare, time_of,
+        "estimators", jobs, sizeof jobs / sizeof jobs[0], INPUTS, check, prepare, time_of,
     };
     return run_program(&program, argc, argv);
 }

@@ -1,9 +1,5 @@
-/* Nanoseconds per call of the library's building and reading, and of plain C beside them.
- *
- *   filters         the table
- *   filters NAME    one job once, by the library and by the C (for counting instructions)
- *   filters names   the names, one a line
- *   filters check   only whether the library and the C leave and answer the same
+/* Building and reading a filter by the library, and by plain C beside it. How it is used stands
+ * in jobs.h.
  *
  * Both sides get the same memory and do all of the work: the form of what they are given, the
  * CRC tables (made in each call), and for a reading our filter, the peels and the table test.
@@ -13,6 +9,7 @@
 
 #include "../include/tandawire.h"
 #include "baseline.h"
+#include "row.h"
 #include "tables.h"
 
 /* ---- The tables and columns of a job or a check ---- */
@@ -151,6 +148,10 @@ static int tampered_agree(void)
     tamper(draw(), -1, size, salt);
     if (end_of_reading(whole, size, salt) != FALSE)
         return 0;
+    /* The same, but stuck: then the table test is not made. */
+    given.ids[5] ^= 1;
+    if (end_of_reading(whole, size, salt) != STUCK)
+        return 0;
     for (uint32_t b = 0; b < size; b++) {
         given.ids[b] = draw();
         given.hashes[b] = (uint32_t)draw();
@@ -159,14 +160,33 @@ static int tampered_agree(void)
     return end_of_reading(whole, size, salt) == STUCK;
 }
 
-/* Each thing that is refused, and each pair of them where the order decides. */
-static int refusals_agree(void)
+/* As many peels as buckets, which may be made; one more; and an ID found again. A row is taken from
+ * our own filter, so that it is the difference. */
+static int rows_agree(void)
+{
+    static struct lent row;
+    make(&tables, MOST, 0, 0);
+    state = SEED;
+    for (enum row_kind kind = PLAIN; kind < ROW_KINDS; kind++) {
+        memset(&row, 0, sizeof row);
+        make_row(row.ids, row.hashes, row.counts, kind);
+        receive(BUCKETS, 0);
+        for (int b = 0; b < BUCKETS; b++) {
+            given.ids[b] ^= row.ids[b];
+            given.hashes[b] ^= row.hashes[b];
+            given.counts[b] -= row.counts[b];
+        }
+        if (end_of_reading(whole, BUCKETS, 0) != (kind == PLAIN ? STUCK : FALSE))
+            return 0;
+    }
+    return 1;
+}
+
+/* Rooms one too short and just enough, and sizes and salts out of range. */
+static int rooms_agree(uint32_t size, uint32_t salt)
 {
     static const uint32_t bad_sizes[] = {0, 36, 4097, UINT32_MAX};
-    const uint32_t size = 500, salt = 3;
     size_t room[5];
-    make(&tables, 200, 10, 10);
-    receive(size, salt);
     for (int i = 0; i < 5; i++) {
         memcpy(room, whole, sizeof room);
         room[i] = size - 1;
@@ -181,18 +201,12 @@ static int refusals_agree(void)
         if (end_of_reading(whole, bad_sizes[i], salt) < 0 ||
             end_of_building(whole, bad_sizes[i], salt) != 3)
             return 0;
-    if (end_of_building(whole, size, SALTS) != 3)
-        return 0;
+    return end_of_building(whole, size, SALTS) == 3;
+}
 
-    given.counts[size] = -1;
-    if (end_of_reading(whole, size, salt) != COMPLETE)
-        return 0;
-    for (int i = 0; i < 2; i++) {
-        given.counts[size - 1] = i == 0 ? -1 : INT64_C(1) << 32;
-        if (end_of_reading(whole, size, salt) != 1 || end_of_reading(whole, size, SALTS) != 1)
-            return 0;
-    }
-
+/* Tables that are none: of a broken length, too long, out of order, and with an ID shared. */
+static int bad_tables_agree(uint32_t size, uint32_t salt)
+{
     for (int i = 0; i < 4; i++) {
         make(&tables, i == 1 ? MOST - 9 : 200, 10, 0);
         receive(size, salt);
@@ -205,52 +219,70 @@ static int refusals_agree(void)
             end_of_building(whole, size, salt) != 1 || end_of_building(whole, 36, salt) != 1)
             return 0;
     }
+    return 1;
+}
+
+/* Each thing that is refused, and each pair of them where the order decides. */
+static int refusals_agree(void)
+{
+    const uint32_t size = 500, salt = 3;
+    make(&tables, 200, 10, 10);
+    receive(size, salt);
+    if (!rooms_agree(size, salt))
+        return 0;
+    given.counts[size] = -1;
+    if (end_of_reading(whole, size, salt) != COMPLETE)
+        return 0;
+    for (int i = 0; i < 2; i++) {
+        given.counts[size - 1] = i == 0 ? -1 : INT64_C(1) << 32;
+        if (end_of_reading(whole, size, salt) != 1 || end_of_reading(whole, size, SALTS) != 1)
+            return 0;
+    }
+    if (!bad_tables_agree(size, salt))
+        return 0;
     make(&tables, 0, 0, 30);
     receive(size, salt);
     return end_of_reading(whole, size, salt) == COMPLETE && end_of_building(whole, size, 0) == 0;
 }
 
-static int check(void)
-{
-    return differences_agree() && tampered_agree() && refusals_agree();
-}
-
 /* ---- The jobs ---- */
 
 /* Our table has all 4,096; theirs lacks some of them and has some of its own. */
+#define BUILD(size, limit, goal)                                                               \
+    {"build_" #size, "build 4096 in " #size, "tandawire_build", "c_build", size, 4096, 0, 0,   \
+     limit, goal}
+#define READ(ours, theirs, size, limit)                                                        \
+    {"read_" #ours "_" #theirs "_" #size, "read " #ours " + " #theirs " at " #size,            \
+     "tandawire_read", "c_read", size, 4096 - ours, ours, theirs, limit, 0}
+/* Counted as a function of its own of the archive; the limits are of these two. */
+#define PEEL(ours, size, limit)                                                                \
+    {"peel_" #ours "_" #size, "of this filter::peeling::peel, " #ours " + 0",                  \
+     "filter::peeling::peel", "c_peel", size, 4096 - ours, ours, 0, limit, 0}
+
 static const struct job jobs[] = {
-    {"build", "build", "build 4096 at 4096", 4096, 4096, 0, 0},
-    {"read_10", "read", "read 10 + 0 at 4096", 4096, 4086, 10, 0},
-    {"read_1000", "read", "read 1000 + 0 at 4096", 4096, 3096, 1000, 0},
-    {"read_2500", "read", "read 2500 + 0 at 4096", 4096, 1596, 2500, 0},
-    {"read_500_500", "read", "read 500 + 500 at 4093", 4093, 3596, 500, 500},
+    BUILD(4093, 1000000, 0),       BUILD(4096, 1000000, 760000),
+    READ(10, 0, 4093, 0),          READ(10, 0, 4096, 0),
+    READ(100, 0, 4093, 0),         READ(100, 0, 4096, 0),
+    READ(500, 0, 4093, 0),         READ(500, 0, 4096, 0),
+    READ(1000, 0, 4093, 0),        READ(1000, 0, 4096, 2100000),
+    PEEL(1000, 4096, 900000),      READ(2500, 0, 4093, 0),
+    READ(2500, 0, 4096, 3100000),  PEEL(2500, 4096, 1600000),
+    READ(5, 5, 4093, 0),           READ(5, 5, 4096, 0),
+    READ(50, 50, 4093, 0),         READ(50, 50, 4096, 0),
+    READ(250, 250, 4093, 0),       READ(250, 250, 4096, 0),
+    READ(500, 500, 4093, 0),       READ(500, 500, 4096, 0),
+    READ(1250, 1250, 4093, 0),     READ(1250, 1250, 4096, 0),
 };
+enum { JOBS = sizeof jobs / sizeof jobs[0] };
 
 static int reads(const struct job *job)
 {
-    return job != &jobs[0];
-}
-
-static double time_of(const struct job *job, int side, uint32_t salt)
-{
-    struct timespec a, b;
-    tandawire_reading r = {0, 1, job->ours, job->theirs};
-    left[side] = given;
-    clock_gettime(CLOCK_MONOTONIC, &a);
-    if (reads(job))
-        r = read_by(side, &left[side], whole, job->size, salt);
-    else
-        r.refusal = build(side, tables.ours, tables.ours_length, &left[side], whole, job->size,
-                          salt);
-    clock_gettime(CLOCK_MONOTONIC, &b);
-    if (r.refusal != 0 || !r.complete || r.ours != job->ours || r.theirs != job->theirs)
-        return -1;
-    return nanoseconds(a, b);
+    return job->ours > 0;
 }
 
 /* One pair of tables at salts from 1. Seeded anew, so that a job is the same whatever ran before:
- * a reading of two sides may also end false. Their filter is built for a reading alone; the job
- * build must be counted without another building. */
+ * a reading of two sides may also end false. Their filter is built for a reading alone; a job
+ * that builds must be counted without another building. */
 static void prepare(const struct job *job, uint32_t salt)
 {
     if (salt == 1) {
@@ -262,10 +294,63 @@ static void prepare(const struct job *job, uint32_t salt)
         receive(job->size, salt);
 }
 
+/* Whether the two sides answered and left the same, and the true difference where it is complete;
+ * a difference of one side must be. */
+static int is_done(const struct job *job, const tandawire_reading r[2])
+{
+    if (memcmp(&left[0], &left[1], sizeof left[0]) != 0 || r[0].refusal != r[1].refusal ||
+        r[0].complete != r[1].complete || r[0].ours != r[1].ours || r[0].theirs != r[1].theirs)
+        return 0;
+    if (r[0].complete)
+        return r[0].refusal == 0 && r[0].ours == job->ours && r[0].theirs == job->theirs;
+    return job->theirs > 0 && (r[0].refusal == 0 || r[0].refusal == TANDAWIRE_REFUSED_FALSE);
+}
+
+static double time_of(const struct job *job, int side, uint32_t salt)
+{
+    static tandawire_reading r[2];
+    struct timespec a, b;
+    left[side] = given;
+    r[side] = (tandawire_reading){0, 1, job->ours, job->theirs};
+    clock_gettime(CLOCK_MONOTONIC, &a);
+    if (reads(job))
+        r[side] = read_by(side, &left[side], whole, job->size, salt);
+    else
+        r[side].refusal = build(side, tables.ours, tables.ours_length, &left[side], whole,
+                                job->size, salt);
+    clock_gettime(CLOCK_MONOTONIC, &b);
+    if (side == 1 && !is_done(job, r))
+        return -1;
+    strcpy(answer, !reads(job) ? "-" : r[side].refusal ? "false" : r[side].complete ? "complete"
+                                                                                    : "stuck");
+    return nanoseconds(a, b);
+}
+
+/* ---- The whole check ---- */
+
+/* Every input that may be measured, in whatever way its reading ends. */
+static int jobs_agree(void)
+{
+    for (int i = 0; i < JOBS; i++)
+        for (uint32_t salt = 1; salt <= TRIED; salt++) {
+            prepare(&jobs[i], salt);
+            for (int side = 0; side < 2; side++)
+                if (time_of(&jobs[i], side, salt) < 0)
+                    return 0;
+        }
+    return 1;
+}
+
+static int check(void)
+{
+    return differences_agree() && tampered_agree() && rows_agree() && refusals_agree() &&
+           jobs_agree();
+}
+
 int main(int argc, char **argv)
 {
     static const struct program program = {
-        "filters", jobs, sizeof jobs / sizeof jobs[0], check, prepare, time_of,
+        "filters", jobs, JOBS, INPUTS, check, prepare, time_of,
     };
     return run_program(&program, argc, argv);
 }

@@ -81,18 +81,34 @@ static __attribute__((noinline)) tandawire_written c_filter_write(const uint64_t
     return done;
 }
 
+/* A slice of a filter; anything else is malformed here. */
+static inline tandawire_message slice_in(const uint8_t *message, size_t length)
+{
+    const tandawire_message none = {0};
+    if (length < HEAD || get(message, 2) != length)
+        return none;
+    uint64_t type = get(message + 2, 2), size = get(message + 4, 4), offset = get(message + 8, 4), salt = get(message + 12, 2), width = get(message + 14, 2);
+    if (size < 37 || size > 4096 || (offset != 0 && offset != SLICE) || offset >= size || salt > 63 || width < 1 || width > 32)
+        return none;
+    size_t n = size - offset < SLICE ? size - offset : SLICE;
+    if (type != (offset + n == size ? TANDAWIRE_IBF_LAST : TANDAWIRE_IBF) || length != slice_length(n, (uint32_t)width))
+        return none;
+    if (message[length - 1] % (1u << (8 * ((n * width + 7) / 8) - n * width)) != 0)
+        return none;
+    return (tandawire_message){(uint32_t)type, (uint32_t)size, (uint32_t)offset, (uint32_t)salt, (uint32_t)width, n, 0, length};
+}
+
+static __attribute__((noinline)) tandawire_message c_message_read(const uint8_t *message, size_t length)
+{
+    return slice_in(message, length);
+}
+
 static __attribute__((noinline)) uint32_t c_filter_lay(const uint8_t *message, size_t length, uint64_t *ids, size_t ids_length, uint32_t *hashes,
                                                        size_t hashes_length, int64_t *counts, size_t counts_length)
 {
-    if (length < HEAD || get(message, 2) != length)
-        return 4;
-    uint64_t type = get(message + 2, 2), size = get(message + 4, 4), offset = get(message + 8, 4), salt = get(message + 12, 2), width = get(message + 14, 2);
-    if (size < 37 || size > 4096 || (offset != 0 && offset != SLICE) || offset >= size || salt > 63 || width < 1 || width > 32)
-        return 4;
-    size_t n = size - offset < SLICE ? size - offset : SLICE, end = offset + n;
-    if (type != (end == size ? TANDAWIRE_IBF_LAST : TANDAWIRE_IBF) || length != slice_length(n, (uint32_t)width))
-        return 4;
-    if (message[length - 1] % (1u << (8 * ((n * width + 7) / 8) - n * width)) != 0)
+    tandawire_message m = slice_in(message, length);
+    size_t n = m.count, offset = m.offset, end = offset + n, width = m.width;
+    if (m.kind == TANDAWIRE_MALFORMED)
         return 4;
     if (ids_length < end || hashes_length < end || counts_length < end)
         return 2;

@@ -1,9 +1,5 @@
-/* Nanoseconds per call of writing a filter as messages and of laying them into columns, and of plain C beside them.
- *
- *   messages         the table
- *   messages NAME    one job once, by the library and by the C (for counting instructions)
- *   messages names   the names, one a line
- *   messages check   only whether the library and the C leave and answer the same
+/* Writing a filter as messages, reading them and laying them into columns, by the library and by plain C beside it. How it is used
+ * stands in jobs.h. The C reads messages of filters alone.
  */
 #define _POSIX_C_SOURCE 199309L
 #include "jobs.h"
@@ -25,7 +21,8 @@ static const struct side {
     tandawire_written (*write)(const uint64_t *, size_t, const uint32_t *, size_t, const int64_t *, size_t, uint32_t, uint32_t, uint8_t *, size_t,
                                size_t);
     uint32_t (*lay)(const uint8_t *, size_t, uint64_t *, size_t, uint32_t *, size_t, int64_t *, size_t);
-} sides[2] = {{tandawire_filter_write, tandawire_filter_lay}, {c_filter_write, c_filter_lay}};
+    tandawire_message (*read)(const uint8_t *, size_t);
+} sides[2] = {{tandawire_filter_write, tandawire_filter_lay, tandawire_message_read}, {c_filter_write, c_filter_lay, c_message_read}};
 
 /* The filter to be written, its messages by each side, and what each side lays of them. */
 static struct lent given, laid[2];
@@ -52,10 +49,26 @@ static void fill(uint32_t width)
     }
 }
 
-/* Whether both sides lay a message alike; answers the refusal, or -1. */
+static int is_slice(tandawire_message m)
+{
+    return m.kind == TANDAWIRE_IBF || m.kind == TANDAWIRE_IBF_LAST;
+}
+
+/* Whether both sides read a message alike, where one of them takes it for a slice of a filter. */
+static int read_alike(const uint8_t *message, size_t length)
+{
+    tandawire_message a = tandawire_message_read(message, length), b = c_message_read(message, length);
+    return (!is_slice(a) && !is_slice(b)) ||
+           (a.kind == b.kind && a.size == b.size && a.offset == b.offset && a.salt == b.salt && a.width == b.width && a.count == b.count &&
+            a.start == b.start && a.next == b.next);
+}
+
+/* Whether both sides read and lay a message alike; answers the refusal, or -1. */
 static int laid_alike(const uint8_t *message, size_t length, size_t room)
 {
     uint32_t a[2];
+    if (!read_alike(message, length))
+        return -1;
     for (int side = 0; side < 2; side++) {
         memset(&laid[side], 0xA5, sizeof laid[side]);
         a[side] = lay_by(side, message, length, room);
@@ -75,9 +88,9 @@ static int messages_alike(size_t from, size_t to)
         memcpy(copy, sent[0] + m.start, length);
         if (laid_alike(copy, length, MOST) != 0 || laid_alike(copy, length, m.offset + m.count - 1) != 2 || laid_alike(copy, length - 1, MOST) != 4)
             return 0;
-        for (size_t i = 0; i < HEAD; i++)
+        for (size_t i = 0; i <= HEAD; i++)
             for (int bit = 0; bit < 8; bit++) {
-                size_t at = i < HEAD - 1 ? i : length - 1;
+                size_t at = i < HEAD ? i : length - 1;
                 copy[at] ^= (uint8_t)(1 << bit);
                 if (laid_alike(copy, length, MOST) < 0)
                     return 0;
@@ -99,7 +112,7 @@ static int check(void)
                 tandawire_written a[2];
                 memset(sent, 0x5A, sizeof sent);
                 for (int side = 0; side < 2; side++)
-                    a[side] = write_by(side, sizes[s], (uint32_t)(width + s) % 65, room, at);
+                    a[side] = write_by(side, sizes[s], (uint32_t)(2 * width + s) % 65, room, at);
                 if (a[0].refusal != a[1].refusal || a[0].next != a[1].next || memcmp(sent[0], sent[1], sizeof sent[0]) != 0)
                     return 0;
                 if (a[0].refusal == 0 && !messages_alike(at, a[0].next))
@@ -115,14 +128,25 @@ static int check(void)
 
 /* The filter of a table of 4,096 elements. */
 static const struct job jobs[] = {
-    {"write_4096", "filter_write", "write 4096 buckets", 4096, 4096, 0, 0},
-    {"lay_4096", "filter_lay", "lay 4096 buckets", 4096, 4096, 0, 0},
+    {"write_4096", "write a filter of 4096", "tandawire_filter_write", "c_filter_write", 4096, 4096, 0, 0, 1500000, 0},
+    {"lay_4096", "lay both slices of 4096", "tandawire_filter_lay", "c_filter_lay", 4096, 4096, 0, 0, 1500000, 0},
+    {"read_4096", "read both slices of 4096 as messages", "tandawire_message_read", "c_message_read", 4096, 4096, 0, 0, 0, 0},
 };
+enum { WRITE, LAY, READ };
+
+/* Both slices are laid, or read; they end at first and at end. */
+static int take(int side, int laying, size_t first, size_t end)
+{
+    const uint8_t *from = sent[side];
+    if (laying)
+        return (lay_by(side, from, first, MOST) | lay_by(side, from + first, end - first, MOST)) == 0;
+    return (int)(sides[side].read(from, first).kind == TANDAWIRE_IBF) & (int)(sides[side].read(from + first, end - first).kind == TANDAWIRE_IBF_LAST);
+}
 
 static double time_of(const struct job *job, int side, uint32_t salt)
 {
     struct timespec a, b;
-    if (job == &jobs[0]) {
+    if (job == &jobs[WRITE]) {
         clock_gettime(CLOCK_MONOTONIC, &a);
         tandawire_written w = write_by(side, job->size, salt, sizeof sent[side], 0);
         clock_gettime(CLOCK_MONOTONIC, &b);
@@ -132,9 +156,11 @@ static double time_of(const struct job *job, int side, uint32_t salt)
     size_t end = c_filter_write(given.ids, MOST, given.hashes, MOST, given.counts, MOST, job->size, salt, sent[side], sizeof sent[side], 0).next;
     size_t first = get(sent[side], 2);
     clock_gettime(CLOCK_MONOTONIC, &a);
-    uint32_t r = lay_by(side, sent[side], first, MOST) | lay_by(side, sent[side] + first, end - first, MOST);
+    int fine = take(side, job == &jobs[LAY], first, end);
     clock_gettime(CLOCK_MONOTONIC, &b);
-    return r == 0 && memcmp(&laid[side], &given, sizeof given) == 0 ? nanoseconds(a, b) : -1;
+    if (job == &jobs[LAY] && memcmp(&laid[side], &given, sizeof given) != 0)
+        return -1;
+    return fine ? nanoseconds(a, b) : -1;
 }
 
 static void prepare(const struct job *job, uint32_t salt)
@@ -150,7 +176,7 @@ static void prepare(const struct job *job, uint32_t salt)
 int main(int argc, char **argv)
 {
     static const struct program program = {
-        "messages", jobs, sizeof jobs / sizeof jobs[0], check, prepare, time_of,
+        "messages", jobs, sizeof jobs / sizeof jobs[0], INPUTS, check, prepare, time_of,
     };
     return run_program(&program, argc, argv);
 }

@@ -1,7 +1,8 @@
 /* How often a reading by the library is complete, stuck or false, for random tables.
  *
- *   rates           the table, 4,000 trials a line
- *   rates TRIALS    the same with so many
+ *   rates               the table, 4,000 trials a line
+ *   rates TRIALS        the same with so many
+ *   rates cap TRIALS    half and half at the largest sizes: a power of two, and three below it
  *
  * A line is a difference, all of it ours or half and half, and a filter of ratio times as many
  * buckets: once the nearest odd number, once the next power of two, each within 37 to 4,096.
@@ -118,13 +119,69 @@ static void print(const unsigned ends[ENDS], uint32_t size, uint32_t d, unsigned
            100.0 * ends[FALSE] / trials);
 }
 
-int main(int argc, char **argv)
+/* All lines of one difference; answers how many exchanges were wrong. */
+static unsigned report(uint32_t d, uint32_t only_theirs, unsigned trials)
 {
-    unsigned trials = argc == 2 ? (unsigned)strtoul(argv[1], NULL, 10) : TRIALS, wrong = 0;
-    if (argc > 2 || trials == 0) {
-        fputs("use: rates, or rates TRIALS\n", stderr);
-        return 2;
+    uint32_t size[RATIOS][2];
+    unsigned ends[RATIOS][2][ENDS], wrong = 0;
+    memset(ends, 0, sizeof ends);
+    for (int r = 0; r < RATIOS; r++) {
+        size[r][0] = nearest_odd(d * hundredths[r]);
+        size[r][1] = next_power(d * hundredths[r]);
     }
+    for (unsigned trial = 0; trial < trials; trial++) {
+        make_summed(d - only_theirs, only_theirs);
+        /* Sizes do not fall from line to line, so equal ones are neighbours. */
+        for (int k = 0; k < 2; k++)
+            for (int r = 0, end = 0; r < RATIOS; r++) {
+                if (r == 0 || size[r][k] != size[r - 1][k])
+                    end = end_of(size[r][k], trial % SALTS);
+                ends[r][k][end]++;
+                wrong += end == WRONG;
+            }
+    }
+    for (int r = 0; r < RATIOS; r++) {
+        if (r > 0 && size[r][0] == size[r - 1][0] && size[r][1] == size[r - 1][1])
+            continue;
+        printf("%6lu %5lu %5.2f", (unsigned long)(d - only_theirs), (unsigned long)only_theirs,
+               hundredths[r] / 100.0);
+        print(ends[r][0], size[r][0], d, trials);
+        print(ends[r][1], size[r][1], d, trials);
+        putchar('\n');
+    }
+    putchar('\n');
+    fflush(stdout);
+    return wrong;
+}
+
+/* The largest sizes, with no factor of two up to twelve; answers how many exchanges were wrong. */
+static unsigned report_cap(unsigned trials)
+{
+    static const uint32_t some[] = {100, 200, 400, 600, 1000}, sizes[] = {4096, 4094, 4093, 4092};
+    unsigned wrong = 0;
+    printf("%u trials a line, half and half; per cent complete, stuck and false\n", trials);
+    for (int i = 0; i < 5; i++) {
+        unsigned ends[4][ENDS];
+        memset(ends, 0, sizeof ends);
+        for (unsigned trial = 0; trial < trials; trial++) {
+            make_summed(some[i] / 2, some[i] / 2);
+            for (int k = 0; k < 4; k++)
+                ends[k][end_of(sizes[k], trial % SALTS)]++;
+        }
+        printf("%6lu", (unsigned long)some[i]);
+        for (int k = 0; k < 4; k++) {
+            print(ends[k], sizes[k], some[i], trials);
+            wrong += ends[k][WRONG];
+        }
+        putchar('\n');
+    }
+    return wrong;
+}
+
+/* The whole table. */
+static unsigned report_all(unsigned trials)
+{
+    unsigned wrong = 0;
     printf("%u trials a line, %d common elements; per cent complete, stuck and false\n\n", trials,
            COMMON);
     printf("%6s %5s %5s  %33s  %33s\n", "", "", "", "nearest odd size", "power of two above");
@@ -132,38 +189,22 @@ int main(int argc, char **argv)
     for (int i = 0; i < 2; i++)
         printf("  %6s %5s %6s %6s %6s", "size", "/ d", "compl.", "stuck", "false");
     putchar('\n');
-    for (int i = 0; i < DIFFERENCES; i++)
-        for (uint32_t halves = 0; halves < 2; halves++) {
-            uint32_t d = differences[i], only_theirs = halves ? d / 2 : 0, size[RATIOS][2];
-            unsigned ends[RATIOS][2][ENDS];
-            memset(ends, 0, sizeof ends);
-            for (int r = 0; r < RATIOS; r++) {
-                size[r][0] = nearest_odd(d * hundredths[r]);
-                size[r][1] = next_power(d * hundredths[r]);
-            }
-            for (unsigned trial = 0; trial < trials; trial++) {
-                make_summed(d - only_theirs, only_theirs);
-                /* Sizes do not fall from line to line, so equal ones are neighbours. */
-                for (int k = 0; k < 2; k++)
-                    for (int r = 0, end = 0; r < RATIOS; r++) {
-                        if (r == 0 || size[r][k] != size[r - 1][k])
-                            end = end_of(size[r][k], trial % SALTS);
-                        ends[r][k][end]++;
-                        wrong += end == WRONG;
-                    }
-            }
-            for (int r = 0; r < RATIOS; r++) {
-                if (r > 0 && size[r][0] == size[r - 1][0] && size[r][1] == size[r - 1][1])
-                    continue;
-                printf("%6lu %5lu %5.2f", (unsigned long)(d - only_theirs),
-                       (unsigned long)only_theirs, hundredths[r] / 100.0);
-                print(ends[r][0], size[r][0], d, trials);
-                print(ends[r][1], size[r][1], d, trials);
-                putchar('\n');
-            }
-            putchar('\n');
-            fflush(stdout);
-        }
+    for (int i = 0; i < DIFFERENCES; i++) {
+        wrong += report(differences[i], 0, trials);
+        wrong += report(differences[i], differences[i] / 2, trials);
+    }
+    return wrong;
+}
+
+int main(int argc, char **argv)
+{
+    int cap = argc == 3 && strcmp(argv[1], "cap") == 0;
+    unsigned trials = argc > 1 ? (unsigned)strtoul(argv[argc - 1], NULL, 10) : TRIALS, wrong;
+    if (argc > 3 || (argc == 3 && !cap) || trials == 0) {
+        fputs("use: rates, rates TRIALS, or rates cap TRIALS\n", stderr);
+        return 2;
+    }
+    wrong = cap ? report_cap(trials) : report_all(trials);
     printf("complete with wrong lists, or refused otherwise: %u\n", wrong);
     return wrong != 0;
 }

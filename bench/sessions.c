@@ -1,231 +1,222 @@
-/* Steps of a session and whole sessions, by the library alone.
+/* Steps of a session and whole sessions, by the library alone. How it is used stands in jobs.h, and
  *
- *   sessions         the table of nanoseconds
- *   sessions NAME    one job once (for counting instructions)
- *   sessions names   the names, one a line
- *   sessions check   whether whole sessions end with the union at both ends
+ *   sessions bytes   what whole sessions send, beside whole lists
+ *
+ * A step is measured on a session of two honest ends that was stopped before it. A whole session is
+ * timed with its lines in memory; of its instructions those of the library are counted.
  */
 #define _POSIX_C_SOURCE 199309L
-#include <stdint.h>
-#include <stdio.h>
-#include <string.h>
-#include <time.h>
+#include "jobs.h"
 
-#include "../include/tandawire.h"
-#include "tables.h"
+#include "ends.h"
 
-enum { HASH = TANDAWIRE_HASH_BYTES, PLACES = TANDAWIRE_SESSION_PLACES };
+/* ---- The check ---- */
 
-/* Everything that one end lends. */
-struct end {
-    tandawire_numbers numbers;
-    const uint8_t *table;
-    size_t table_length;
-    uint8_t records[TANDAWIRE_RECORDS_BYTES], marks[TANDAWIRE_MARKS_BYTES];
-    uint64_t inquired[PLACES], ids[PLACES], ours[PLACES], theirs[PLACES];
-    uint32_t hashes[PLACES];
-    int64_t counts[PLACES];
-    uint8_t out[TANDAWIRE_OUT_BYTES];
-};
-
-static tandawire_stepped step(struct end *e, const uint8_t *hash, const uint8_t *message, size_t length)
+/* Whether both ends hold the same, and so many. Each holds its own table, so that is the union if it
+ * has as many elements as the union. */
+static int both_hold(size_t number)
 {
-    tandawire_stepped s = tandawire_step(e->numbers, e->table, e->table_length, e->records, sizeof e->records, e->marks, sizeof e->marks, e->inquired,
-                                         PLACES, e->ids, PLACES, e->hashes, PLACES, e->counts, PLACES, e->ours, PLACES, e->theirs, PLACES, hash, HASH,
-                                         message, length, e->out, sizeof e->out);
-    e->numbers = s.next;
-    return s;
-}
-
-/* ---- Whole sessions ---- */
-
-static struct tables tables;
-static struct end ends[2], saved;
-static uint8_t line[2][8 << 20];
-static size_t head[2], tail[2], steps, wire;
-
-/* What an end sends goes to the other's line: messages as they are, and an ELEMENT for each hash due, its content the hash. */
-static void put(int to, const struct end *from, tandawire_stepped s)
-{
-    memcpy(line[to] + tail[to], from->out, s.sent);
-    tail[to] += s.sent;
-    for (size_t i = 0; i < s.due; i++) {
-        tandawire_written w = tandawire_element_write(from->out + i * HASH, HASH, line[to], sizeof line[to], tail[to]);
-        tail[to] = w.next;
-    }
-}
-
-/* Runs both ends to their end; 1 if both finish. */
-static int run(uint32_t size)
-{
-    static const uint8_t none[HASH];
+    static uint8_t held[2][TANDAWIRE_MOST_ELEMENTS * HASH];
     for (int i = 0; i < 2; i++)
-        head[i] = tail[i] = 0;
-    steps = 0;
-    ends[0].table = tables.ours, ends[0].table_length = tables.ours_length;
-    ends[1].table = tables.theirs, ends[1].table_length = tables.theirs_length;
-    tandawire_stepped r = tandawire_start_receiver(ends[0].table, ends[0].table_length, ends[0].marks, sizeof ends[0].marks);
-    tandawire_stepped s = tandawire_start_sender(ends[1].table, ends[1].table_length, size, 0, ends[1].marks, sizeof ends[1].marks, ends[1].out,
-                                                 sizeof ends[1].out);
-    if (r.refusal || s.refusal)
-        return 0;
-    ends[0].numbers = r.next;
-    ends[1].numbers = s.next;
-    put(0, &ends[1], s);
-    while (head[0] < tail[0] || head[1] < tail[1])
-        for (int i = 0; i < 2; i++)
-            while (head[i] < tail[i]) {
-                tandawire_message m = tandawire_message_at(line[i], tail[i], head[i]);
-                if (m.kind <= TANDAWIRE_END)
-                    return 0;
-                const uint8_t *hash = m.kind == TANDAWIRE_ELEMENT ? line[i] + m.start + TANDAWIRE_MESSAGE_HEAD : none;
-                tandawire_stepped t = step(&ends[i], hash, line[i] + m.start, m.next - m.start);
-                steps++;
-                if (t.refusal && t.refusal != TANDAWIRE_REFUSED_FALSE)
-                    return 0;
-                head[i] = m.next;
-                put(1 - i, &ends[i], t);
-            }
-    wire = tail[0] + tail[1];
-    return ends[0].numbers.state == TANDAWIRE_FINISHED && ends[1].numbers.state == TANDAWIRE_FINISHED;
+        if (tandawire_session_union(&ends[i], held[i], sizeof held[i]) != number * HASH)
+            return 0;
+    return memcmp(held[0], held[1], number * HASH) == 0;
 }
 
-static int held(const struct end *e, const uint8_t *hash)
-{
-    for (size_t i = 0; i < e->table_length; i += HASH)
-        if (!memcmp(e->table + i, hash, HASH))
-            return 1;
-    for (size_t i = 0; i < e->numbers.demanded; i++)
-        if (e->marks[TANDAWIRE_RECORD_MARKS + i] & 8 && !memcmp(e->records + i * HASH, hash, HASH))
-            return 1;
-    return 0;
-}
-
-/* Whether each end holds every element of both tables. */
 static int check(void)
 {
-    static const uint32_t sizes[][4] = {{37, 0, 0, 0}, {37, 50, 3, 4}, {61, 200, 300, 20}, {2053, 3096, 500, 500}, {4093, 0, 1500, 0}, {37, 900, 0, 1100}};
-    for (size_t k = 0; k < sizeof sizes / sizeof sizes[0]; k++) {
-        make(&tables, sizes[k][1], sizes[k][2], sizes[k][3]);
-        if (!run(sizes[k][0])) {
-            fprintf(stderr, "session %zu did not finish: states %u and %u\n", k, ends[0].numbers.state, ends[1].numbers.state);
+    static const uint32_t pairs[][4] = {{37, 0, 0, 0}, {37, 50, 3, 4}, {61, 200, 300, 20}, {2053, 3096, 500, 500}, {4093, 0, 1500, 0}, {37, 900, 0, 1100}};
+    for (size_t k = 0; k < sizeof pairs / sizeof pairs[0]; k++) {
+        const uint32_t *p = pairs[k];
+        make(&tables, p[1], p[2], p[3]);
+        if (!run(p[0])) {
+            fprintf(stderr, "session %zu did not finish: %s and %s\n", k, tandawire_state_text(ends[0].numbers.state),
+                    tandawire_state_text(ends[1].numbers.state));
             return 0;
         }
-        for (int i = 0; i < 2; i++)
-            for (int j = 0; j < 2; j++)
-                for (size_t at = 0; at < ends[j].table_length; at += HASH)
-                    if (!held(&ends[i], ends[j].table + at)) {
-                        fprintf(stderr, "session %zu: end %d lacks an element\n", k, i);
-                        return 0;
-                    }
+        if (!both_hold(p[1] + p[2] + p[3])) {
+            fprintf(stderr, "session %zu does not end with the union\n", k);
+            return 0;
+        }
     }
     return 1;
 }
 
-/* ---- Single steps, on ledgers made by hand ---- */
+/* ---- The jobs ---- */
 
-static uint8_t message[TANDAWIRE_MOST_MESSAGE], hash[HASH];
-static size_t length;
+#define STEP(name, what, size, common, ours, theirs, limit) {name, what, "measured_step*", "-", size, common, ours, theirs, limit, 0}
+#define SESSION(name, what, common, ours, theirs, limit, goal) \
+    {name, what, "tandawire_step tandawire_start_*", "-", 0, common, ours, theirs, limit, goal}
 
-/* A session in a state with a table of ours; theirs are demanded, the first `met` of them met. */
-static void lend(uint32_t state, size_t met, int inquire)
+/* No session holds or wants more than 4,096, and all but one that much: the table, and what is demanded. */
+static const struct job jobs[] = {
+    STEP("slice", "IBF, first slice of 4093", 4093, 3096, 1000, 0, 0),
+    STEP("last_10", "IBF LAST of 37, complete, 10 ours", 37, 4086, 10, 0, 0),
+    STEP("last_ours", "IBF LAST of 4093, complete, 1000 ours", 4093, 3096, 1000, 0, 0),
+    STEP("last_theirs", "IBF LAST of 4093, complete, 1000 theirs", 4093, 3096, 0, 1000, 0),
+    STEP("last_swap", "IBF LAST of 2047, stuck, swap to 4094", 2047, 2048, 2048, 0, 0),
+    STEP("inquiry", "INQUIRY of 1000", 4093, 3096, 0, 1000, 0),
+    STEP("offer_1023", "OFFER of 1023 new hashes, Passive", 4093, 3073, 1023, 0, 40000000),
+    STEP("offer_descending", "the same in descending order, the worst", 4093, 3073, 1023, 0, 40000000),
+    STEP("offer_1000", "OFFER of 1000 inquired, Active", 4093, 3096, 0, 1000, 0),
+    STEP("demand", "DEMAND of 1000", 4093, 3096, 0, 1000, 0),
+    STEP("element", "ELEMENT, Passive, 4094 held and 2 wanted", 4093, 4093, 2, 1, 500000),
+    STEP("last_element", "last ELEMENT of 2048, DONE goes", 4093, 2048, 0, 2048, 500000),
+    STEP("done", "DONE, Passive, finishes", 4093, 3096, 0, 1000, 0),
+    STEP("malformed", "malformed: an IBF LAST a byte short", 4093, 3096, 1000, 0, 0),
+    SESSION("session_5_5", "session, 5 + 5", 4086, 5, 5, 0, 0),
+    SESSION("session_50_50", "session, 50 + 50", 3996, 50, 50, 0, 0),
+    SESSION("session_500_500", "session, 500 + 500", 3096, 500, 500, 1000000000, 500000000),
+    SESSION("session_1000_0", "session, receiver alone has 1000", 3096, 1000, 0, 1000000000, 500000000),
+    SESSION("session_0_1000", "session, sender alone has 1000", 3096, 0, 1000, 1000000000, 500000000),
+};
+
+/* Before which message each step stops, and how it answers it: the refusal and the state. */
+static const struct {
+    struct stop stop;
+    uint32_t refusal, state;
+} steps[] = {
+    {{RECEIVER, TANDAWIRE_IBF, 1}, 0, TANDAWIRE_EXPECTING_IBF_LAST},
+    {{RECEIVER, TANDAWIRE_IBF_LAST, 1}, 0, TANDAWIRE_ACTIVE_DECODING},
+    {{RECEIVER, TANDAWIRE_IBF_LAST, 1}, 0, TANDAWIRE_ACTIVE_DECODING},
+    {{RECEIVER, TANDAWIRE_IBF_LAST, 1}, 0, TANDAWIRE_ACTIVE_DECODING},
+    {{RECEIVER, TANDAWIRE_IBF_LAST, 1}, 0, TANDAWIRE_PASSIVE_DECODING},
+    {{SENDER, TANDAWIRE_INQUIRY, 1}, 0, TANDAWIRE_PASSIVE_DECODING},
+    {{SENDER, TANDAWIRE_OFFER, 1}, 0, TANDAWIRE_PASSIVE_DECODING},
+    {{SENDER, TANDAWIRE_OFFER, 1}, 0, TANDAWIRE_PASSIVE_DECODING},
+    {{RECEIVER, TANDAWIRE_OFFER, 1}, 0, TANDAWIRE_ACTIVE_DECODING},
+    {{SENDER, TANDAWIRE_DEMAND, 1}, 0, TANDAWIRE_PASSIVE_DECODING},
+    {{SENDER, TANDAWIRE_ELEMENT, 1}, 0, TANDAWIRE_PASSIVE_DECODING},
+    {{RECEIVER, TANDAWIRE_ELEMENT, 2048}, 0, TANDAWIRE_ACTIVE_DECODING},
+    {{SENDER, TANDAWIRE_DONE, 1}, 0, TANDAWIRE_FINISHED},
+    {{RECEIVER, TANDAWIRE_IBF_LAST, 1}, TANDAWIRE_REFUSED_MALFORMED, TANDAWIRE_ABORTED},
+};
+enum { JOBS = sizeof jobs / sizeof jobs[0], STEPS = sizeof steps / sizeof steps[0] };
+
+/* The size that a caller who knows the difference would take. */
+static uint32_t size_of(const struct job *job)
 {
-    memset(&saved, 0, sizeof saved);
-    saved.table = tables.ours, saved.table_length = tables.ours_length;
-    size_t n = tables.theirs_length / HASH;
-    memcpy(saved.records, tables.theirs, tables.theirs_length);
-    memset(saved.marks + TANDAWIRE_RECORD_MARKS, 8, met);
-    for (size_t i = 0; inquire && i < n; i++) {
-        uint64_t id = 0;
-        for (int b = 0; b < 8; b++)
-            id = id << 8 | tables.theirs[i * HASH + (size_t)b];
-        saved.inquired[i] = id;
-    }
-    saved.numbers = (tandawire_numbers){state, 0, 37, 0, 0, 0, 0, (uint32_t)n, inquire ? (uint32_t)n : 0};
+    return tandawire_size_for(job->ours + job->theirs, job->ours && job->theirs ? 3 : 2);
 }
 
-static void put16(uint8_t *at, size_t x)
+/* A session as it was before the step, and the message. */
+static tandawire_session before;
+static struct message message;
+
+static int descending(const void *a, const void *b)
 {
-    at[0] = (uint8_t)(x >> 8), at[1] = (uint8_t)x;
+    return compare_hashes(b, a);
 }
 
-static void element(const uint8_t *of)
+/* What honest ends do not send: one message a byte short, and hashes of an OFFER in the order in which
+ * each goes in before all others. */
+static void alter(const char *name)
 {
-    memcpy(hash, of, HASH);
-    length = tandawire_element_write(of, HASH, message, sizeof message, 0).next;
+    static uint8_t altered[TANDAWIRE_MOST_MESSAGE];
+    if (strcmp(name, "malformed") == 0)
+        message.length--;
+    if (strcmp(name, "offer_descending") != 0)
+        return;
+    memcpy(altered, message.bytes, message.length);
+    qsort(altered + TANDAWIRE_MESSAGE_HEAD, message.length / HASH, HASH, descending);
+    message.bytes = altered;
 }
 
-static void prepare(int job)
+static void prepare(const struct job *job, uint32_t n)
 {
+    ptrdiff_t at = job - jobs;
+    (void)n;
     state = SEED;
-    if (job == 0) { /* ELEMENT in Passive Decoding: 4,095 elements in the table, one more demanded beside it */
-        make(&tables, 0, 4094, 2);
-        lend(TANDAWIRE_PASSIVE_DECODING, 0, 0);
-        element(tables.theirs);
-    } else if (job == 1) { /* the last ELEMENT in Active Decoding, so that DONE goes: half of 4,096 demanded and met */
-        make(&tables, 0, 2048, 2048);
-        lend(TANDAWIRE_ACTIVE_DECODING, 2047, 1);
-        element(tables.theirs + (size_t)2047 * HASH);
-    } else if (job == 2) { /* OFFER of 1,023 new hashes */
-        make(&tables, 0, 3073, 1023);
-        lend(TANDAWIRE_PASSIVE_DECODING, 0, 0);
-        memset(saved.records, 0, sizeof saved.records);
-        saved.numbers.demanded = 0;
-        length = 4 + (size_t)1023 * HASH;
-        put16(message, length);
-        put16(message + 2, TANDAWIRE_OFFER);
-        for (size_t i = 0; i < 1023; i++) /* in an order that is not theirs: 512 and 1,023 have no common divisor */
-            memcpy(message + 4 + i * HASH, tables.theirs + i * 512 % 1023 * HASH, HASH);
-    } else
-        make(&tables, 3096, 500, 500);
+    message.kind = TANDAWIRE_MALFORMED;
+    make(&tables, job->common, job->ours, job->theirs);
+    if (at >= STEPS || !start(job->size) || !run_to(steps[at].stop))
+        return;
+    before = ends[steps[at].stop.end];
+    message = next_to(steps[at].stop.end);
+    alter(job->name);
 }
 
-static int once(int job, double *nanoseconds)
+/* A function of its own, so that the steps before it are not counted. */
+__attribute__((noinline)) tandawire_stepped measured_step(int end)
 {
-    struct timespec from, to;
-    int fine;
-    if (job < 3)
-        ends[0] = saved;
-    clock_gettime(CLOCK_MONOTONIC, &from);
-    if (job < 3) {
-        tandawire_stepped s = step(&ends[0], hash, message, length);
-        fine = s.refusal == 0 && (job != 1 || s.sent == TANDAWIRE_DONE_BYTES) && (job != 2 || s.sent == length);
-    } else
-        fine = run(2053);
-    clock_gettime(CLOCK_MONOTONIC, &to);
-    *nanoseconds = (double)(to.tv_sec - from.tv_sec) * 1e9 + (double)(to.tv_nsec - from.tv_nsec);
-    return fine;
+    return step(end, message);
 }
 
-static const char *const names[] = {"element", "last_element", "offer_1023", "session_1000"};
-static const char *const what[] = {"ELEMENT, 4,096 held or wanted", "last ELEMENT, DONE due", "OFFER of 1,023 new hashes", "whole session, 1,000 different"};
+static double time_of_step(ptrdiff_t at)
+{
+    struct timespec a, b;
+    int end = steps[at].stop.end;
+    if (message.kind != steps[at].stop.kind)
+        return -1;
+    ends[end] = before;
+    clock_gettime(CLOCK_MONOTONIC, &a);
+    tandawire_stepped s = measured_step(end);
+    clock_gettime(CLOCK_MONOTONIC, &b);
+    if (s.refusal != steps[at].refusal || s.next.state != steps[at].state)
+        return -1;
+    if (s.refusal)
+        snprintf(answer, sizeof answer, "refused %lu", (unsigned long)s.refusal);
+    else
+        snprintf(answer, sizeof answer, "%s %zu", s.due ? "due" : "sent", s.due ? s.due : s.sent);
+    return nanoseconds(a, b);
+}
+
+static double time_of(const struct job *job, int side, uint32_t n)
+{
+    struct timespec a, b;
+    (void)side, (void)n;
+    if (job - jobs < STEPS)
+        return time_of_step(job - jobs);
+    clock_gettime(CLOCK_MONOTONIC, &a);
+    int finished = run(size_of(job));
+    clock_gettime(CLOCK_MONOTONIC, &b);
+    snprintf(answer, sizeof answer, "finished");
+    return finished ? nanoseconds(a, b) : -1;
+}
+
+/* ---- What is sent ---- */
+
+enum { PAIRS = 100 };
+
+/* How many of some pairs of tables swap, and how many do not end with the union at both ends. */
+static void luck(const struct job *job, unsigned *swapped, unsigned *failed)
+{
+    *swapped = *failed = 0;
+    for (int i = 0; i < PAIRS; i++) {
+        make(&tables, job->common, job->ours, job->theirs);
+        *failed += !run(size_of(job)) || !both_hold(job->common + job->ours + job->theirs);
+        *swapped += ends[0].numbers.swaps + ends[1].numbers.swaps > 0;
+    }
+}
+
+/* A line a session for bench/all, its fields parted by tabs: the size; steps, swaps, bytes without the
+ * elements' contents and with them on the pair that is measured; the sender's whole list of hashes, and
+ * all its elements as messages; pairs, and those that swap and that fail. */
+static int print_bytes(void)
+{
+    for (int i = STEPS; i < JOBS; i++) {
+        const struct job *job = &jobs[i];
+        size_t number = job->common + job->theirs;
+        unsigned swapped, failed;
+        prepare(job, 1);
+        if (!run(size_of(job)) || !both_hold(job->common + job->ours + job->theirs))
+            return 1;
+        printf("%s\t%lu\t%zu\t%lu\t%zu\t%zu\t%zu\t%zu", job->what, (unsigned long)size_of(job), taken.steps,
+               (unsigned long)(ends[0].numbers.swaps + ends[1].numbers.swaps), wire() - taken.elements * CONTENT, wire(), number * HASH,
+               number * (TANDAWIRE_MESSAGE_HEAD + CONTENT));
+        luck(job, &swapped, &failed);
+        printf("\t%d\t%u\t%u\n", PAIRS, swapped, failed);
+        fflush(stdout);
+    }
+    return 0;
+}
 
 int main(int argc, char **argv)
 {
-    const char *word = argc == 2 ? argv[1] : "";
-    double best, again;
-    if (!strcmp(word, "check"))
-        return !check();
-    for (int job = 0; job < 4; job++) {
-        if (!strcmp(word, "names")) {
-            printf("%s %s\n", names[job], what[job]);
-            continue;
-        }
-        if (argc == 2 && strcmp(word, names[job]))
-            continue;
-        prepare(job);
-        best = 1e18;
-        for (int round = 0; round < (argc == 2 ? 1 : 25); round++) {
-            if (!once(job, &again)) {
-                fprintf(stderr, "%s: not the whole job\n", names[job]);
-                return 1;
-            }
-            best = again < best ? again : best;
-        }
-        if (argc != 2)
-            printf("%-32s %12.0f ns%s", what[job], best, job < 3 ? "\n" : "");
-        if (argc != 2 && job == 3)
-            printf(", %zu steps, %zu bytes on the line; both lists whole: %zu\n", steps, wire, tables.ours_length + tables.theirs_length);
-    }
-    return 0;
+    static const struct program program = {
+        "sessions", jobs, JOBS, 1, check, prepare, time_of,
+    };
+    if (argc == 2 && strcmp(argv[1], "bytes") == 0)
+        return print_bytes();
+    return run_program(&program, argc, argv);
 }
