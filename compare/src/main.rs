@@ -134,12 +134,24 @@ fn around(text: &str, at: usize) -> String {
     text.chars().skip(at.saturating_sub(16)).take(32).collect()
 }
 
-/// Compares everything; with `sessions` as argument the sessions alone, which costs less time.
 fn main() {
-    let sessions_alone = std::env::args().nth(1).as_deref() == Some("sessions");
-    if !sessions_alone {
-        differ::must_be_there();
+    let words: Vec<String> = std::env::args().skip(1).collect();
+    let words: Vec<&str> = words.iter().map(String::as_str).collect();
+    match words[..] {
+        ["mutate", calls, seed] => mutate(calls, seed),
+        ["mutate", ..] => usage(),
+        ["sessions", ..] => compare(true),
+        _ => compare(false),
     }
+}
+
+fn usage() {
+    println!("usage: compare [sessions | mutate CALLS SEED]");
+    exit(1);
+}
+
+/// A tally of nothing yet, once the model has been held to what is known.
+fn begin() -> Tally {
     let checked = known::check_model()
         .and_then(|()| known_filters::check_model())
         .and_then(|()| estimates::check_model())
@@ -148,14 +160,35 @@ fn main() {
         println!("the model itself is wrong: {what}");
         exit(1);
     }
-    let mut tally = Tally {
+    Tally {
         subjects: Vec::new(),
         seed: 0,
         ends: Vec::new(),
         outcomes: Vec::new(),
         messages: messages::Counts::default(),
         sessions: sessions::Counts::default(),
+    }
+}
+
+/// Makes so many mutated calls of the step; with other seeds they are others.
+fn mutate(calls: &str, seed: &str) {
+    let (Ok(calls), Ok(seed)) = (calls.parse(), seed.parse()) else {
+        return usage();
     };
+    let mut tally = begin();
+    if !sessions::mutated::compare(&mut tally, calls, seed) {
+        println!("more mutated calls are asked for, or more of an answer");
+        exit(1);
+    }
+    println!("{calls} mutated calls of seed {seed}, no difference");
+}
+
+/// Compares everything; or the sessions alone, which costs less time.
+fn compare(sessions_alone: bool) {
+    if !sessions_alone {
+        differ::must_be_there();
+    }
+    let mut tally = begin();
     if !sessions_alone {
         compare_lower_layers(&mut tally);
     }

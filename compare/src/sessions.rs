@@ -15,6 +15,7 @@ mod ledger;
 mod ledgers;
 mod limits;
 pub mod memory;
+pub mod mutated;
 mod readings;
 mod rooms;
 mod slices;

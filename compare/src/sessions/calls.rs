@@ -169,7 +169,7 @@ impl Twin {
     }
 }
 
-fn same(
+pub fn same(
     tally: &mut Tally,
     call: impl Fn() -> String,
     model: Step,
@@ -181,7 +181,7 @@ fn same(
 }
 
 /// A message in words.
-fn told(bytes: &[u8]) -> String {
+pub fn told(bytes: &[u8]) -> String {
     let header = layout::read(bytes);
     let len = bytes.len();
     let start = &bytes[..len.min(140)];

@@ -93,7 +93,7 @@ impl Counts {
     }
 
     /// Whatever was given is one of those listed: what is not may be a mistake of the model.
-    fn nothing_is_new(&self) -> bool {
+    pub fn nothing_is_new(&self) -> bool {
         let mut known = true;
         for (refusal, why, row) in self.given.keys() {
             let listed = MUST
