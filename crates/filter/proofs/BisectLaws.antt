@@ -1,11 +1,12 @@
--- Binary search: its steps, what holds where it ends, and that it finds exactly what stands in an ascending list. Assumes nothing.
+-- Binary search: its steps, what holds where it ends, and that it finds exactly what stands in an ascending list. Where it ends can also be told
+-- from two neighbours. Assumes nothing.
 use mathlib.Core.Path.{_≡_, refl, sym, ap, _∙_}
 use mathlib.Core.Bool.{Bool, true, false, not, _&&_, cond, and-eq-true-iff, true≢false}
 use mathlib.Core.List.{List}
 use Prim.Native.Nat.{ℕ, zero, suc, _+_, _-_, _/_, _≤_, _<_}
 use native.Mathlib.Omega.{arith}
 use lib.Dec.{ltb, eqb}
-use lib.ListN.{length, getD}
+use lib.ListN.{length, getD, List·getD-eq-default}
 use borrow.Author.Tests.{ltb-true, ltb-false, lt-ltb, le-ltb, eqb-true, eq-eqb, ne-eqb}
 use Rattle.bucket.specs.Lists.{elem}
 use Rattle.bucket.proofs.ListLaws.{elem-at, at-index}
@@ -258,3 +259,25 @@ module _ (l : List ℕ) (a : ℕ) {at : ℕ} (is : at ≡ position l a) where
           apart : a < getD l at 0 → getD l at 0 ≡ a → ⊥
           apart h q = omega arith
       go false e g = sym (eq-eqb (getD l at 0) a (omega (arith, ltb-false a (getD l at 0) e)))
+
+-- two neighbours that a lies between decide it: a search ends at the second. Past the end is no neighbour, since a is not below 0
+module _ (l : List ℕ) (a p : ℕ) (e : ascending l ≡ true) (low : getD l p 0 < a) (high : a ≤ getD l (p + 1) 0) where
+  between-within : p + 1 < length l
+  between-within = go (ltb (p + 1) (length l)) refl
+    where
+      go : (t : Bool) → ltb (p + 1) (length l) ≡ t → p + 1 < length l
+      go true x = ltb-true (p + 1) (length l) x
+      go false x = absurd (omega (arith, List·getD-eq-default l 0 (ltb-false (p + 1) (length l) x)))
+
+  between-ends : p + 1 ≡ position l a
+  between-ends = go (position-parts l a e) (ltb p (position l a)) refl (ltb (p + 1) (position l a)) refl
+    where
+      go : Parts (λ i. ltb (getD l i 0) a) (length l) (position l a)
+          → (t : Bool) → ltb p (position l a) ≡ t → (u : Bool) → ltb (p + 1) (position l a) ≡ u → p + 1 ≡ position l a
+      go s false x u y =
+          absurd (omega (arith, ltb-false (getD l p 0) a (s .fails-above p (ltb-false p (position l a) x) (omega (arith, between-within)))))
+      go s true x true y = absurd (omega (arith, ltb-true (getD l (p + 1) 0) a (s .holds-below (p + 1) (ltb-true (p + 1) (position l a) y))))
+      go s true x false y = omega (arith, ltb-true p (position l a) x, ltb-false (p + 1) (position l a) y)
+
+  pub holds-between : eqb (getD l (p + 1) 0) a ≡ holds l a
+  holds-between = holds-there l a between-ends between-within

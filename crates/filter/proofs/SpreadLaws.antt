@@ -1,6 +1,6 @@
 -- An element added to all its buckets: one bucket after another it makes `spread`, and no count grows by more than one. Assumes nothing.
 use mathlib.Core.Path.{_≡_, refl, sym, ap, ap₂, subst, _∙_}
-use mathlib.Core.Bool.{Bool, true, false, _&&_, cond}
+use mathlib.Core.Bool.{Bool, true, false, cond}
 use mathlib.Core.List.{List, [], _∷_}
 use Prim.Native.Nat.{ℕ, suc, _+_, _-_, _^_, _≤_, _<_, min, zero-le}
 use native.Mathlib.Omega.{arith}
@@ -9,14 +9,14 @@ use lib.Dec.{eqb, ltb}
 use lib.IntN.{ℤ, pos, negsuc, natAbs, subℕ, _+ℤ_}
 use lib.ListN.{length, getD, drop, drop-of-length-le}
 use Rattle.bucket.specs.Bucket.{Bucket, _⊕_, 𝟎}
-use Rattle.bucket.specs.Columns.{Columns, view, isSmall, isOpen, added}
+use Rattle.bucket.specs.Columns.{Columns, view, place, isSmall, isOpen}
 use Rattle.bucket.specs.Crc.{crcTables, nextBy}
 use Rattle.bucket.specs.Lists.{pad, elem, Distinct}
 use Rattle.bucket.specs.Places.{crcNext, placesBy, places}
 use Rattle.bucket.proofs.BucketLaws.{⊕-idr}
-use Rattle.bucket.proofs.ColumnLaws.{SameLengths, view-added, added-lengths}
+use Rattle.bucket.proofs.ColumnLaws.{SameLengths, is-open-inside, place-same, place-other, place-lengths}
 use Rattle.bucket.proofs.ListLaws.{elem-nil, elem-head, elem-cons-ne}
-use Rattle.bucket.proofs.PlaceLaws.{Place, place, places-by-tables, places-distinct, places-below, places-count}
+use Rattle.bucket.proofs.PlaceLaws.{Place, place as place-of, places-by-tables, places-distinct, places-below, places-count}
 use Rattle.filter.specs.Calls.{filled}
 use Rattle.filter.specs.Steps.{Wide, Small, Sound, spread}
 use Rattle.filter.proofs.FilledLaws.{lengths-refl, lengths-trans, wide-same, filled-of}
@@ -81,20 +81,15 @@ open-of n m c i d w s g h e =
 
 -- the bucket p done, those of ps to come
 pub spread-next : (p : ℕ) (ps : List ℕ) (b : Bucket) (c : Columns) (i : ℕ) → isOpen c p (b .count) ≡ true → elem p ps ≡ false
-    → spread ps b (view (added c p b)) i ≡ spread (p ∷ ps) b (view c) i
+    → spread ps b (view (place c p (view c p ⊕ b))) i ≡ spread (p ∷ ps) b (view c) i
 unfolding spread
-spread-next p ps b c i o e =
-    ap (λ (v : Bucket). v ⊕ cond (elem i ps) b 𝟎) (view-added c p i b ∙ ap (λ (t : Bool). cond (eqb i p && t) (view c p ⊕ b) (view c i)) o)
-    ∙ go (eqb i p) refl
+spread-next p ps b c i o e = go (eqb i p) refl
   where
-    go : (t : Bool) → eqb i p ≡ t
-        → cond (t && true) (view c p ⊕ b) (view c i) ⊕ cond (elem i ps) b 𝟎 ≡ view c i ⊕ cond (elem i (p ∷ ps)) b 𝟎
+    go : (t : Bool) → eqb i p ≡ t → view (place c p (view c p ⊕ b)) i ⊕ cond (elem i ps) b 𝟎 ≡ view c i ⊕ cond (elem i (p ∷ ps)) b 𝟎
     go true q =
-        let same = eqb-true i p q in
-        ap (λ (t : Bool). (view c p ⊕ b) ⊕ cond t b 𝟎) (ap (λ (v : ℕ). elem v ps) same ∙ e)
-        ∙ ⊕-idr (view c p ⊕ b)
-        ∙ ap₂ (λ (v : ℕ) (t : Bool). view c v ⊕ cond t b 𝟎) (sym same) (sym (ap (λ (v : ℕ). elem v (p ∷ ps)) same ∙ elem-head p ps))
-    go false q = rw (elem-cons-ne i p ps (eqb-false i p q))
+        let l = is-open-inside c p (b .count) o in
+        rw (eqb-true i p q, place-same c p (view c p ⊕ b) (l .0) (l .1) (l .2), e, elem-head p ps) (⊕-idr (view c p ⊕ b))
+    go false q = rw (place-other c p i (view c p ⊕ b) (eqb-false i p q), elem-cons-ne i p ps (eqb-false i p q))
 
 spread-out : (ps : List ℕ) (b : Bucket) (f : ℕ → Bucket) (i : ℕ) → elem i ps ≡ false → spread ps b f i ≡ f i
 unfolding spread
@@ -136,36 +131,37 @@ added-start k size h b c s = record {
 }
 
 module _ (k size h : ℕ) (b : Bucket) (c₀ c : Columns) (j : ℕ) (sound : Sound size k 0) (w : Wide size c₀) (a : Added k size h b c₀ c j) where
-  pub added-next : (r : List ℕ) (c′ : Columns) → natAbs (b .count) ≤ 1 → r ≡ pad 4 (places k size h) → j < k → c′ ≡ added c (getD r j 0) b
-      → Added k size h b c₀ c′ (j + 1)
-  added-next r c′ one e l q = record {
-    within = omega arith;
-    lengths = lengths-trans c′ c c₀ (subst (λ (d : Columns). SameLengths d c) (sym q) (added-lengths c p b)) (a .lengths);
-    sums = λ i.
-        ap (λ (d : Columns). spread (drop (j + 1) (places k size h)) b (view d) i) q
-        ∙ spread-next p (drop (j + 1) (places k size h)) b c i is-open (order .0)
-        ∙ ap (λ (ps : List ℕ). spread ps b (view c) i) (sym (here .rest))
-        ∙ a .sums i;
-    apart = order .1;
-    small = small-more size (2 ^ 60 + j + 1) (2 ^ 60 + (j + 1)) c′ (omega arith)
-        (small-spread size (2 ^ 60 + j) (p ∷ []) b c c′ one
-        (λ i _. ap (λ (d : Columns). view d i) q ∙ sym (spread-nil b (view (added c p b)) i) ∙ spread-next p [] b c i is-open (elem-nil p))
-        (a .small));
-  }
-    where
-      p : ℕ
-      p = getD r j 0
+  module _ (r : List ℕ) (one : natAbs (b .count) ≤ 1) (e : r ≡ pad 4 (places k size h)) (l : j < k) where
+    here : Place crcNext k size h r j
+    here = place-of crcNext k size h 4 r j e (omega (arith, l, sound .least, sound .few))
 
-      here : Place crcNext k size h r j
-      here = place crcNext k size h 4 r j e (omega (arith, l, sound .least, sound .few))
+    -- the next place is open to the element
+    pub added-open : isOpen c (getD r j 0) (b .count) ≡ true
+    added-open =
+        open-of size (2 ^ 60 + j) c (getD r j 0) (b .count) (wide-same size c c₀ (a .lengths) w) (a .small)
+        (omega (arith, l, sound .few)) (here .below) (abs-small (b .count) (omega (arith, one)))
 
-      order : Distinct (p ∷ drop (j + 1) (places k size h))
-      order = subst Distinct (here .rest) (a .apart)
+    pub added-next : (c′ : Columns) → c′ ≡ place c (getD r j 0) (view c (getD r j 0) ⊕ b) → Added k size h b c₀ c′ (j + 1)
+    added-next c′ q = record {
+      within = omega arith;
+      lengths = lengths-trans c′ c c₀ (subst (λ (d : Columns). SameLengths d c) (sym q) (place-lengths c p (view c p ⊕ b))) (a .lengths);
+      sums = λ i.
+          ap (λ (d : Columns). spread (drop (j + 1) (places k size h)) b (view d) i) q
+          ∙ spread-next p (drop (j + 1) (places k size h)) b c i added-open (order .0)
+          ∙ ap (λ (ps : List ℕ). spread ps b (view c) i) (sym (here .rest))
+          ∙ a .sums i;
+      apart = order .1;
+      small = small-more size (2 ^ 60 + j + 1) (2 ^ 60 + (j + 1)) c′ (omega arith)
+          (small-spread size (2 ^ 60 + j) (p ∷ []) b c c′ one
+          (λ i _. ap (λ (d : Columns). view d i) q ∙ sym (spread-nil b (view (place c p (view c p ⊕ b))) i) ∙ spread-next p [] b c i added-open (elem-nil p))
+          (a .small));
+    }
+      where
+        p : ℕ
+        p = getD r j 0
 
-      is-open : isOpen c p (b .count) ≡ true
-      is-open =
-          open-of size (2 ^ 60 + j) c p (b .count) (wide-same size c c₀ (a .lengths) w) (a .small)
-          (omega (arith, l, sound .few)) (here .below) (abs-small (b .count) (omega (arith, one)))
+        order : Distinct (p ∷ drop (j + 1) (places k size h))
+        order = subst Distinct (here .rest) (a .apart)
 
   pub added-end : k ≤ j → c ≡ filled size (spread (places k size h) b (view c₀)) c₀
   added-end l =

@@ -1,18 +1,17 @@
 -- An element taken out of one bucket, and one bucket after another out of all its own, with the set of buckets that look pure.
 -- Assumes nothing.
-use mathlib.Core.Path.{_≡_, sym, ap, _∙_}
-use mathlib.Core.Bool.{Bool, true, cond}
+use mathlib.Core.Path.{_≡_}
+use mathlib.Core.Bool.{true}
 use mathlib.Core.List.{List}
 use Prim.Native.Nat.{ℕ, _+_, _^_, _≤_, _<_, min}
 use native.Mathlib.Omega.{arith}
 use lib.IntN.{ℤ, natAbs}
 use lib.ListN.{getD}
-use Rattle.bucket.specs.Bucket.{Bucket, bucket, _⊕_, _⊖_, neg}
-use Rattle.bucket.specs.Columns.{Columns, view, place, isOpen, added, subtracted}
+use Rattle.bucket.specs.Bucket.{Bucket, bucket, _⊕_, neg}
+use Rattle.bucket.specs.Columns.{Columns, view, place, isOpen}
 use Rattle.bucket.specs.Crc.{crcTables, nextBy}
 use Rattle.bucket.specs.Lists.{pad}
 use Rattle.bucket.specs.Places.{crcNext, places, placesBy}
-use Rattle.bucket.proofs.ColumnLaws.{is-open-neg}
 use Rattle.bucket.proofs.PlaceLaws as PlaceLaws
 use Rattle.filter.specs.Calls.{filled}
 use Rattle.filter.specs.Filter.{rule}
@@ -28,17 +27,9 @@ pub abs-neg : (b : Bucket) → natAbs (neg b .count) ≡ natAbs (b .count)
 unfolding neg
 abs-neg b = abs-negℤ (b .count)
 
-module _ (c : Columns) (n i : ℕ) (b : Bucket) (w : Wide n c) (s : Small n (2 ^ 61) c) (h : i < n) (one : natAbs (b .count) ≤ 1) where
-  is-open : isOpen c i (b .count) ≡ true
-  is-open = open-of n (2 ^ 61) c i (b .count) w s (omega arith) h (abs-small (b .count) (omega arith))
-
-  pub subtracted-open : (c′ : Columns) → c′ ≡ subtracted c i b → c′ ≡ place c i (view c i ⊕ neg b)
-  unfolding subtracted
-  subtracted-open c′ e = e ∙ ap (λ (o : Bool). cond o (place c i (view c i ⊖ b)) c) is-open
-
-  placed-added : place c i (view c i ⊕ neg b) ≡ added c i (neg b)
-  unfolding added
-  placed-added = sym (ap (λ (o : Bool). cond o (place c i (view c i ⊖ b)) c) (is-open-neg c i b ∙ is-open))
+-- a bucket below the size is open to what it loses
+pub taking-open : (c : Columns) (n i : ℕ) (b : Bucket) → Wide n c → Small n (2 ^ 61) c → i < n → natAbs (b .count) ≤ 1 → isOpen c i (neg b .count) ≡ true
+taking-open c n i b w s h one = open-of n (2 ^ 61) c i (neg b .count) w s (omega arith) h (abs-small (neg b .count) (omega (arith, one, abs-neg b)))
 
 -- ---- all its buckets
 
@@ -70,8 +61,7 @@ module _ (k size x h : ℕ) (s : ℤ) (c₀ : Columns) where
           → c′ ≡ place c (getD r j 0) (view c (getD r j 0) ⊕ neg (bucket x h s)) → Marks (shows (rule k size 0) (view c′)) bits′ t′
           → Taking k size x h s c₀ c′ bits′ t′ (j + 1)
       taking-next bits′ t′ c′ l one q m = record {
-        taken = added-next k size h (neg (bucket x h s)) c₀ c j sound w (g .taken) r c′ (omega (arith, one, abs-neg (bucket x h s))) found l
-            (q ∙ placed-added c size (getD r j 0) (bucket x h s) taking-wide taking-small (taking-below l) one);
+        taken = added-next k size h (neg (bucket x h s)) c₀ c j sound w (g .taken) r (omega (arith, one, abs-neg (bucket x h s))) found l c′ q;
         marks = m;
       }
 

@@ -1,11 +1,12 @@
 // A table's elements added to three columns: our filter is made in cleared columns, and the difference over received ones. An estimator's
 // strata stand one behind the other, and a filter is a single stratum: one loop serves both.
 ghost use mathlib.Core.Path.{_≡_};
+ghost use mathlib.Core.Bool.{true};
 ghost use Prim.Native.Nat.{_≤_, _*_, _/_, _^_, min};
 ghost use lib.IntN.{pos};
 ghost use lib.ListN.{length};
 ghost use Rattle.bucket.specs.Bucket.{bucket, _⊕_};
-ghost use Rattle.bucket.specs.Columns.{columns, view};
+ghost use Rattle.bucket.specs.Columns.{columns, view, place, isOpen};
 ghost use Rattle.bucket.specs.Counts.{stratumOf};
 ghost use Rattle.bucket.specs.Crc.{crcOf, crcTables};
 ghost use Rattle.bucket.specs.Places.{places};
@@ -111,7 +112,28 @@ fn add_to_places(
     let mut j: usize = 0;
     while j < k {
         let b = p[j] as usize;
-        bucket::columns::add_at(ids, hashes, counts, b, x, h, 1);
+        put_at(ids, hashes, counts, b, x, h, 1);
         j += 1;
     }
+}
+
+// Adds a bucket to bucket i, which is open to it: what add_at of `bucket` does, without its tests.
+pub(crate) fn put_at(
+    ids: &mut [u64],
+    hashes: &mut [u32],
+    counts: &mut [i64],
+    i: usize,
+    idsum: u64,
+    hashsum: u32,
+    count: i64,
+)
+    requires { ⌜ isOpen (columns (now ids) (now hashes) (now counts)) i count ≡ true ⌝ }
+    ensures { λ _. ⌜ columns (now (ids .exit)) (now (hashes .exit)) (now (counts .exit))
+        ≡ place (columns (now (ids .entry)) (now (hashes .entry)) (now (counts .entry))) i
+        (view (columns (now (ids .entry)) (now (hashes .entry)) (now (counts .entry))) i ⊕ bucket idsum hashsum count) ⌝ }
+{
+    ids[i] = ids[i] ^ idsum;
+    hashes[i] = hashes[i] ^ hashsum;
+    let c = counts[i];
+    counts[i] = c + count;
 }

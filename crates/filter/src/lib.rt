@@ -5,6 +5,7 @@ pub mod answers;
 pub mod building;
 mod clearing;
 pub mod estimator;
+mod finding;
 pub mod forms;
 mod judging;
 mod marks;

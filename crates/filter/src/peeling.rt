@@ -171,7 +171,7 @@ fn settle(
         (view (columns (now (ids .entry)) (now (hashes .entry)) (now (counts .entry))) b ⊕ Rattle.bucket.specs.Bucket.neg (bucket x h s)))
         × Marks (shows (rule k size 0) (view (columns (now (ids .exit)) (now (hashes .exit)) (now (counts .exit))))) (now (bits .exit)) r ⌝ }
 {
-    bucket::columns::subtract_at(ids, hashes, counts, b, x, h, s);
+    crate::adding::put_at(ids, hashes, counts, b, x, h, 0 - s);
     let c = counts[b];
     if bucket::purity::is_one(c) {
         let on = bucket::purity::looks_pure(tab, ids[b], hashes[b], c, b as u32, size, k);

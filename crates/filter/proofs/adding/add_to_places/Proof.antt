@@ -10,7 +10,7 @@ use Rattle.bucket.specs.Bucket.{bucket}
 use Rattle.bucket.specs.Columns.{columns}
 use Rattle.bucket.specs.Lists.{pad}
 use Rattle.bucket.specs.Places.{places}
-use Rattle.filter.proofs.SpreadLaws.{Added, added-start, added-next, added-end, places-given}
+use Rattle.filter.proofs.SpreadLaws.{Added, added-start, added-open, added-next, added-end, places-given}
 use Rattle.filter.proofs.adding.add_to_places.Statement.{statement}
 use Rattle.filter.proofs.adding.add_to_places.Tie as tie
 
@@ -45,8 +45,15 @@ array-read-b c = search needs
 cast-b : tie.Need-cast-b Inv-loop μ-loop
 cast-b c = search needs
 
-add-at-requires : tie.Need-add-at-requires Inv-loop μ-loop
-add-at-requires c κs = search needs
+put-at-requires : tie.Need-put-at-requires Inv-loop μ-loop
+put-at-requires c κs =
+    let l = c .before .before .before in
+    let w = l .before .loop in
+    let s = l .before .before .before .before .before in
+    let a = s .args in
+    added-open (a .k) (a .size) (a .h) (bucket (a .x) (a .h) (pos 1))
+    (columns (a .ids .now) (a .hashes .now) (a .counts .now)) (columns (w .ids) (w .hashes) (w .counts)) (w .j)
+    (s .pre .1) (s .pre .2) (w .inv) (l .before .before .places .result) (omega arith) (given (l .before .before)) (l .loop-test .taken)
 
 add-j : tie.Need-add-j Inv-loop μ-loop
 add-j c = search needs
@@ -56,15 +63,15 @@ loop-less c = search needs
 
 loop-again : tie.Need-loop-again Inv-loop μ-loop
 loop-again c =
-    let t = c .before .before .before .before .before .add-at in
+    let t = c .before .before .before .before .before .put-at in
     let l = c .before .before .before .before .before .before .before .before .before in
     let w = l .before .loop in
     let s = l .before .before .before .before .before in
     let a = s .args in
     added-next (a .k) (a .size) (a .h) (bucket (a .x) (a .h) (pos 1))
     (columns (a .ids .now) (a .hashes .now) (a .counts .now)) (columns (w .ids) (w .hashes) (w .counts)) (w .j)
-    (s .pre .1) (s .pre .2) (w .inv) (l .before .before .places .result) (columns (t .last .0) (t .last .1 .0) (t .last .1 .1 .0))
-    (omega arith) (given (l .before .before)) (l .loop-test .taken) (t .ensures)
+    (s .pre .1) (s .pre .2) (w .inv) (l .before .before .places .result) (omega arith) (given (l .before .before)) (l .loop-test .taken)
+    (columns (t .last .0) (t .last .1 .0) (t .last .1 .1 .0)) (t .ensures)
 
 same-length : tie.Need-same-length Inv-loop μ-loop
 same-length c = c .before .loop .inv .lengths .0
@@ -95,7 +102,7 @@ add-to-places-spec =
     mul-b
     array-read-b
     cast-b
-    add-at-requires
+    put-at-requires
     add-j
     loop-less
     loop-again

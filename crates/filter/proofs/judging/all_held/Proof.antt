@@ -1,5 +1,5 @@
--- `judging::all_held` meets its contract: the IDs before i have been found as wanted, and in a table a binary search finds an ID exactly
--- where it is. Assumes nothing.
+-- `judging::all_held` meets its contract: the IDs before i have been found as wanted, and in a table an ID is found exactly where it is.
+-- Assumes nothing.
 use mathlib.Core.Path.{_∙_, sym}
 use Prim.Native.Nat.{_-_}
 use native.Mathlib.Omega.{arith}
@@ -13,28 +13,28 @@ use Rattle.filter.proofs.judging.all_held.Statement.{statement}
 use Rattle.filter.proofs.judging.all_held.Tie as tie
 
 abbrev Inv-loop : tie.InvT-loop
-Inv-loop table list n want i₀ i = Agreed want (idsOf firstEight table) list n i
+Inv-loop table hints list n want i₀ i = Agreed want (idsOf firstEight table) list n i
 
 abbrev μ-loop : tie.MeasureT-loop
-μ-loop table list n want i₀ i = n - i
+μ-loop table hints list n want i₀ i = n - i
 
 loop-holds : tie.Need-loop-holds Inv-loop μ-loop
 loop-holds c = agreed-start _ _ _ _
 
-mul-holds-id : tie.Need-mul-holds-id Inv-loop μ-loop
-mul-holds-id c = search needs
+mul-is-held : tie.Need-mul-is-held Inv-loop μ-loop
+mul-is-held c = search needs
 
-shared-slice-read-holds-id : tie.Need-shared-slice-read-holds-id Inv-loop μ-loop
-shared-slice-read-holds-id c = search needs
+shared-slice-read-is-held : tie.Need-shared-slice-read-is-held Inv-loop μ-loop
+shared-slice-read-is-held c = search needs
 
-holds-id-requires : tie.Need-holds-id-requires Inv-loop μ-loop
-holds-id-requires c κs = search needs
+is-held-requires : tie.Need-is-held-requires Inv-loop μ-loop
+is-held-requires c κs = search needs
 
 returns : tie.Need-returns Inv-loop μ-loop
 returns c =
-    let s = c .before .before .before .before .before .before .before in
+    let s = c .before .before .before .before .before .before .before .before in
     let at = c .before .before .before .before .loop in
-    sym (agreed-not (s .pre .1) (at .inv) (omega arith) (agree-other (c .before .holds-id .result) (s .args .want) (c .before .holds-id .ensures ∙ held-id (now (s .args .table)) (s .pre .0) (getD (now (s .args .list)) (at .i) 0)) (c .if1 .taken)))
+    sym (agreed-not (s .pre .1) (at .inv) (omega arith) (agree-other (c .before .is-held .result) (s .args .want) (c .before .is-held .ensures ∙ held-id (now (s .args .table)) (s .pre .0) (getD (now (s .args .list)) (at .i) 0)) (c .if1 .taken)))
 
 add-i : tie.Need-add-i Inv-loop μ-loop
 add-i c = search needs
@@ -44,12 +44,12 @@ loop-less c = search needs
 
 loop-again : tie.Need-loop-again Inv-loop μ-loop
 loop-again c =
-    let s = c .before .before .before .before .before .before .before in
+    let s = c .before .before .before .before .before .before .before .before in
     let at = c .before .before .before .before .loop in
-    agreed-next (s .pre .1) (at .inv) (omega arith) (agree-same (c .before .holds-id .result) (s .args .want) (c .before .holds-id .ensures ∙ held-id (now (s .args .table)) (s .pre .0) (getD (now (s .args .list)) (at .i) 0)) (c .if1 .left))
+    agreed-next (s .pre .1) (at .inv) (omega arith) (agree-same (c .before .is-held .result) (s .args .want) (c .before .is-held .ensures ∙ held-id (now (s .args .table)) (s .pre .0) (getD (now (s .args .list)) (at .i) 0)) (c .if1 .left))
 
 returns-2 : tie.Need-returns-2 Inv-loop μ-loop
-returns-2 c = sym (agreed-end (c .before .before .before .before .pre .1) (c .before .loop .inv) (omega arith))
+returns-2 c = sym (agreed-end (c .before .before .before .before .before .pre .1) (c .before .loop .inv) (omega arith))
 
 pub all-held-spec : {M : Type 1} → statement M
 all-held-spec =
@@ -58,9 +58,9 @@ all-held-spec =
     Inv-loop
     μ-loop
     loop-holds
-    mul-holds-id
-    shared-slice-read-holds-id
-    holds-id-requires
+    mul-is-held
+    shared-slice-read-is-held
+    is-held-requires
     returns
     add-i
     loop-less

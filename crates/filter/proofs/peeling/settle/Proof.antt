@@ -1,22 +1,34 @@
 -- The bucket is open to the element, so it loses it; its new look is the code's test, and no other bucket has changed. Assumes nothing.
-use mathlib.Core.Path.{_≡_, ap, _∙_, subst}
-use mathlib.Core.Bool.{false}
-use lib.IntN.{ℤ}
-use mir.Syntax.{w64}
-use mir.ValLaws.{toZ-ofZ}
+use mathlib.Core.Path.{_≡_, ap, _∙_}
+use mathlib.Core.Bool.{true, false}
+use native.Mathlib.Omega.{arith}
 use Rattle.bucket.specs.Bucket.{Bucket, bucket, _⊕_, neg}
-use Rattle.bucket.specs.Columns.{Columns, columns, view, place, subtracted}
+use Rattle.bucket.specs.Columns.{Columns, columns, view, place, isSmall}
+use Rattle.bucket.proofs.SmallLaws.{small-minus, small-minus-fits}
 use Rattle.filter.specs.Filter.{Rule, rule}
 use Rattle.filter.specs.Peeling.{isPure}
 use Rattle.filter.specs.Steps.{shows}
 use Rattle.filter.proofs.ShowLaws.{pure-read, impure-read, shows-place}
-use Rattle.filter.proofs.TakingLaws.{subtracted-open}
+use Rattle.filter.proofs.SpreadLaws.{abs-small}
+use Rattle.filter.proofs.TakingLaws.{taking-open}
 use borrow.Author.Needs.{needs, sfits-of}
 use Rattle.filter.proofs.peeling.settle.Statement.{statement}
 use Rattle.filter.proofs.peeling.settle.Tie as tie
 
-subtract-at-requires : tie.Need-subtract-at-requires
-subtract-at-requires c κs = search needs
+small-here : (s : tie.Start) → isSmall (s .args .s) ≡ true
+small-here s = abs-small (s .args .s) (omega (arith, s .pre .4))
+
+sub-put-at : tie.Need-sub-put-at
+sub-put-at c = let s = c .before .before .before .before .before in small-minus-fits (s .args .s) (small-here s)
+
+put-at-requires : tie.Need-put-at-requires
+unfolding neg
+put-at-requires c κs =
+    let s = c .before .before .before .before .before in
+    let a = s .args in
+    rw (small-minus (a .s) (small-here s))
+    (taking-open (columns (a .ids .now) (a .hashes .now) (a .counts .now)) (a .size) (a .b) (bucket (a .x) (a .h) (a .s))
+    (s .pre .3) (s .pre .5) (s .pre .2) (s .pre .4))
 
 mul-c : tie.Need-mul-c
 mul-c c = search needs
@@ -58,25 +70,21 @@ same-length-3 : tie.Need-same-length-3
 same-length-3 c = search needs
 
 -- what the bucket lost
-gone : (c : tie.After-subtract-at) → let s = c .before .before .before .before .before .before in
+gone : (c : tie.After-put-at) → let s = c .before .before .before .before .before .before in
     let a = s .args in
     let was : Columns = columns (a .ids .now) (a .hashes .now) (a .counts .now) in
-    let t = c .subtract-at in
+    let t = c .put-at in
     columns (t .last .0) (t .last .1 .0) (t .last .1 .1 .0) ≡ place was (a .b) (view was (a .b) ⊕ neg (bucket (a .x) (a .h) (a .s)))
+unfolding neg
 gone c =
     let s = c .before .before .before .before .before .before in
-    let a = s .args in
-    let t = c .subtract-at in
-    let was : Columns = columns (a .ids .now) (a .hashes .now) (a .counts .now) in
-    let is : Columns = columns (t .last .0) (t .last .1 .0) (t .last .1 .1 .0) in
-    subtracted-open was (a .size) (a .b) (bucket (a .x) (a .h) (a .s)) (s .pre .3) (s .pre .5) (s .pre .2) (s .pre .4) is
-    (subst (λ (z : ℤ). is ≡ subtracted was (a .b) (bucket (a .x) (a .h) z)) (toZ-ofZ w64 (a .s) (s .fits .s)) (t .ensures))
+    rw (small-minus (s .args .s) (small-here s)) at (c .put-at .ensures)
 
 returns : tie.Need-returns
 returns c =
     let s = c .before .before .before .before .before .before .before .before .before .before .before .before .before .before .before .before .before .before .before in
     let a = s .args in
-    let t = c .before .before .before .before .before .before .before .before .before .before .before .before .before .subtract-at in
+    let t = c .before .before .before .before .before .before .before .before .before .before .before .before .before .put-at in
     let was : Columns = columns (a .ids .now) (a .hashes .now) (a .counts .now) in
     let is : Columns = columns (t .last .0) (t .last .1 .0) (t .last .1 .1 .0) in
     let R : Rule = rule (a .k) (a .size) 0 in
@@ -109,7 +117,7 @@ returns-2 : tie.Need-returns-2
 returns-2 c =
     let s = c .before .before .before .before .before .before .before .before .before .before .before .before .before .before .before .before in
     let a = s .args in
-    let t = c .before .before .before .before .before .before .before .before .before .before .subtract-at in
+    let t = c .before .before .before .before .before .before .before .before .before .before .put-at in
     let was : Columns = columns (a .ids .now) (a .hashes .now) (a .counts .now) in
     let is : Columns = columns (t .last .0) (t .last .1 .0) (t .last .1 .1 .0) in
     let R : Rule = rule (a .k) (a .size) 0 in
@@ -130,7 +138,8 @@ pub settle-spec : {M : Type 1} → statement M
 settle-spec =
     tie.close
     (tie.spec
-    subtract-at-requires
+    sub-put-at
+    put-at-requires
     mul-c
     slice-copy-out-c
     is-one-requires
