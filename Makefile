@@ -3,7 +3,7 @@
 #   make              proves the library and all that it stands on, and makes target/staticlib/libtandawire.a
 #   make demo         two peers in one program, then eleven peers, each a process of its own
 #   make hostile      a peer that sends damaged messages of every kind, and what it is answered
-#   make install      header, archive and pkg-config file under PREFIX (DESTDIR is put before it)
+#   make install      headers, archive, pkg-config file, guide and examples under PREFIX (DESTDIR is put before it)
 #   make uninstall    takes them away again
 #   make version      says the version
 #   make memory       tests and examples under valgrind and the sanitizers
@@ -12,8 +12,11 @@
 # It needs the Rattle toolchain (rt) and a C compiler; make memory also valgrind.
 
 PREFIX ?= /usr/local
+# A pkg-config file wants whole paths.
+override PREFIX := $(abspath $(PREFIX))
 LIBDIR ?= $(PREFIX)/lib
 INCLUDEDIR ?= $(PREFIX)/include
+DOCDIR ?= $(PREFIX)/share/doc/tandawire
 CC ?= cc
 CFLAGS ?= -O2
 WARNINGS = -Wall -Wextra -pedantic
@@ -50,9 +53,11 @@ hostile: target/examples/hostile
 	target/examples/hostile
 
 install: $(ARCHIVE)
-	install -d "$(DESTDIR)$(INCLUDEDIR)" "$(DESTDIR)$(LIBDIR)/pkgconfig"
+	install -d "$(DESTDIR)$(INCLUDEDIR)" "$(DESTDIR)$(LIBDIR)/pkgconfig" "$(DESTDIR)$(DOCDIR)/examples"
 	install -m 644 $(HEADERS) "$(DESTDIR)$(INCLUDEDIR)"
 	install -m 644 $(ARCHIVE) "$(DESTDIR)$(LIBDIR)"
+	install -m 644 docs/USING.md docs/FIGURES.md "$(DESTDIR)$(DOCDIR)"
+	install -m 644 examples/*.c examples/*.h "$(DESTDIR)$(DOCDIR)/examples"
 	printf '%s\n' 'prefix=$(PREFIX)' 'libdir=$(LIBDIR)' 'includedir=$(INCLUDEDIR)' '' 'Name: tandawire' \
 	  'Description: Set reconciliation with peers that are not trusted' 'Version: $(VERSION)' \
 	  'Libs: -L$${libdir} -ltandawire' 'Cflags: -I$${includedir}' >"$(DESTDIR)$(LIBDIR)/pkgconfig/tandawire.pc"
@@ -61,6 +66,7 @@ install: $(ARCHIVE)
 uninstall:
 	rm -f "$(DESTDIR)$(INCLUDEDIR)/tandawire.h" "$(DESTDIR)$(INCLUDEDIR)/tandawire_inline.h" \
 	  "$(DESTDIR)$(LIBDIR)/libtandawire.a" "$(DESTDIR)$(LIBDIR)/pkgconfig/tandawire.pc"
+	rm -rf "$(DESTDIR)$(DOCDIR)"
 
 version:
 	@echo "$(VERSION)"

@@ -37,8 +37,11 @@ static void send_answer(struct peer *p, tandawire_stepped a)
     for (size_t i = 0; i < a.due; i++) {
         const struct element *e = store_find(&p->store, tandawire_session_due(&p->session, i));
         tandawire_written w = tandawire_element_write(e->content, e->length, p->out->bytes, sizeof p->out->bytes, p->out->tail);
-        if (w.refusal == TANDAWIRE_REFUSED_NONE)
-            p->out->tail = w.next;
+        if (w.refusal) { /* the far end would wait for it: the session must be dropped */
+            fprintf(stderr, "%s cannot send an element: %s\n", p->name, tandawire_refusal_text(w.refusal));
+            exit(1);
+        }
+        p->out->tail = w.next;
     }
 }
 
@@ -47,14 +50,14 @@ static void serve(struct peer *p)
 {
     const uint8_t *message = p->in->bytes + p->in->head;
     size_t length = tandawire_message_bytes(message);
-    uint8_t hash[TANDAWIRE_HASH_BYTES] = {0};
+    uint8_t hash[TANDAWIRE_HASH_BYTES];
 
     /* The library makes no hashes: that of an element that comes is ours to work out. */
     tandawire_part content = tandawire_element_content(message, length);
     if (content.bytes)
         sha512(content.bytes, content.length, hash);
 
-    tandawire_stepped a = tandawire_session_step(&p->session, message, length, hash);
+    tandawire_stepped a = tandawire_session_step(&p->session, message, length, content.bytes ? hash : NULL);
     printf("%s takes %-8s of %5zu bytes: %s, now %s\n", p->name, tandawire_kind_text(tandawire_message_read(message, length).kind), length,
            tandawire_refusal_text(a.refusal), tandawire_state_text(a.next.state));
 

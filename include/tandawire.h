@@ -40,6 +40,10 @@
 #include <stddef.h>
 #include <stdint.h>
 
+#if SIZE_MAX != UINT64_MAX
+#error "Tandawire's archive is for x86-64, where size_t has 64 bits"
+#endif
+
 #ifdef __cplusplus
 extern "C" {
 #endif
@@ -59,7 +63,8 @@ uint32_t tandawire_version(void);
 #define TANDAWIRE_STRATUM_PLACES 79
 #define TANDAWIRE_ESTIMATOR_PLACES (TANDAWIRE_STRATA * TANDAWIRE_STRATUM_PLACES)
 
-/* The stack that a thread should have: a step takes up to 0.7 MB of it, other calls up to 59 KB. */
+/* The stack that a thread should have: a step takes up to 0.7 MB of it, the start of a sender 91 KB,
+ * every other call less than 60 KB. */
 #define TANDAWIRE_STACK_BYTES 1048576
 
 /* Messages. */

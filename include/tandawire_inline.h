@@ -1,23 +1,31 @@
 /* Tandawire, the comfortable layer: a session, a filter and an estimator each as one struct that holds
  * all memory that the calls of tandawire.h want, and inline functions over them. Include tandawire.h.
  *
- * A session, from one end. The line, SHA-512 and where elements are kept are the caller's:
+ * A session, from one end. The line, SHA-512 and where elements are kept are the caller's; exactly one
+ * of the two ends is the sender:
  *
  *     static tandawire_session s;     (about 0.75 MB: static or allocated, not on a small stack)
- *     tandawire_stepped a = tandawire_session_start_receiver(&s, table, table_length);
- *     while (!tandawire_session_is_over(&s)) {
+ *     tandawire_stepped a = sends_first
+ *         ? tandawire_session_start_sender(&s, table, table_length, size, 0)
+ *         : tandawire_session_start_receiver(&s, table, table_length);
+ *     for (;;) {
+ *         send the first a.sent bytes of s.out
+ *         for (size_t i = 0; i < a.due; i++)
+ *             send the element whose hash is tandawire_session_due(&s, i), as an ELEMENT
+ *         if (tandawire_session_is_over(&s))
+ *             break;
  *         size_t length = receive one message
  *         tandawire_part content = tandawire_element_content(message, length);
  *         if (content.bytes)
  *             sha512(content.bytes, content.length, hash);
  *         a = tandawire_session_step(&s, message, length, content.bytes ? hash : NULL);
+ *         if (a.refusal == TANDAWIRE_REFUSED_FORM || a.refusal == TANDAWIRE_REFUSED_ROOM)
+ *             break;                  (a fault of this program: nothing has changed)
  *         if (content.bytes && !a.refusal)
  *             keep the element
- *         send the first a.sent bytes of s.out
- *         for (size_t i = 0; i < a.due; i++)
- *             send the element whose hash is tandawire_session_due(&s, i)
  *     }
- *     size_t held = tandawire_session_union(&s, new_table, sizeof new_table);
+ *     if (tandawire_session_is_finished(&s))
+ *         size_t held = tandawire_session_union(&s, new_table, sizeof new_table);
  *
  * examples/smallest.c is this, whole. All pointers to structs must be to such structs; all else is as
  * tandawire.h says: every input is answered, nothing is allocated, nothing is kept.
@@ -41,13 +49,13 @@ static inline const char *tandawire_refusal_text(uint32_t refusal)
 {
     static const char *const texts[] = {
         "not refused",
-        "a table, column, state or ledger that breaks its form",
-        "a lent buffer that is too short",
+        "a table that is not sorted, has a hash or an ID twice or is too long, or memory of a session that was changed",
+        "a lent buffer that is too short, or an ELEMENT without its hash",
         "a size or salt out of range",
         "a malformed message",
         "a message out of turn",
         "a filter that contradicts itself or our table",
-        "a message that breaks a rule of the session",
+        "a message that breaks a rule of the session, or an ELEMENT whose hash was not demanded",
         "checksums that differ",
         "too many swaps",
         "too many elements",
@@ -83,12 +91,23 @@ static inline const char *tandawire_kind_text(uint32_t kind)
 /* ---- Messages on a stream ---- */
 
 /* How many bytes the message has that begins with these four, so that a stream can be cut: take four
- * bytes, then the rest. Never less than TANDAWIRE_MESSAGE_HEAD: where MSG SIZE says less, the four bytes
- * alone are to be handed on, and are malformed. Never more than TANDAWIRE_MOST_MESSAGE. */
+ * bytes, then the rest. From TANDAWIRE_MESSAGE_HEAD to TANDAWIRE_MOST_MESSAGE. Where MSG SIZE says less,
+ * or MSG TYPE is no kind of message, the four bytes alone are to be handed on, and are malformed: so bytes
+ * that were never meant as a message are refused at once, and not waited for. */
 static inline size_t tandawire_message_bytes(const uint8_t head[TANDAWIRE_MESSAGE_HEAD])
 {
     size_t bytes = (size_t)head[0] << 8 | head[1];
-    return bytes < TANDAWIRE_MESSAGE_HEAD ? TANDAWIRE_MESSAGE_HEAD : bytes;
+    uint32_t kind = (uint32_t)head[2] << 8 | head[3];
+    switch (kind) {
+    case TANDAWIRE_DEMAND:
+    case TANDAWIRE_INQUIRY:
+    case TANDAWIRE_OFFER:
+    case TANDAWIRE_IBF:
+    case TANDAWIRE_ELEMENT:
+    case TANDAWIRE_IBF_LAST:
+    case TANDAWIRE_DONE: return bytes < TANDAWIRE_MESSAGE_HEAD ? TANDAWIRE_MESSAGE_HEAD : bytes;
+    default: return TANDAWIRE_MESSAGE_HEAD;
+    }
 }
 
 /* A part of a buffer of the caller's. */
@@ -201,7 +220,9 @@ static inline int tandawire_session_is_finished(const tandawire_session *s)
     return s->numbers.state == TANDAWIRE_FINISHED;
 }
 
-/* The hash of the i-th element due after a DEMAND, i from 0 and below the due that the step answered. */
+/* The hash of the i-th element due after a DEMAND, i from 0 and below the due that the step answered. It is
+ * in the table, or was gained. Send its content as an ELEMENT, by tandawire_element_write; the hash alone is
+ * no message. */
 static inline const uint8_t *tandawire_session_due(const tandawire_session *s, size_t i)
 {
     return s->out + i * TANDAWIRE_HASH_BYTES;
@@ -218,9 +239,9 @@ static inline const uint8_t *tandawire_session_gained(const tandawire_session *s
     return NULL;
 }
 
-/* Writes what is held, the table and what was gained, as one table. Answers its bytes, at most 64 *
- * TANDAWIRE_MOST_ELEMENTS; where the room is less, nothing is written. The new table may not overlap the
- * old one or the session. */
+/* Writes what is held, the table and what was gained, as one table. Answers the bytes that it takes, at
+ * most 64 * TANDAWIRE_MOST_ELEMENTS: where the answer is more than room, nothing was written. The new table
+ * may not overlap the old one or the session. */
 static inline size_t tandawire_session_union(const tandawire_session *s, uint8_t *table, size_t room)
 {
     const size_t bytes = TANDAWIRE_HASH_BYTES;
@@ -355,9 +376,10 @@ static inline tandawire_estimation tandawire_estimator_compare(tandawire_estimat
                               theirs->hashes, n, theirs->counts, n);
 }
 
-/* The size of a filter for an estimated difference: the odd number next above so many times the
- * estimate, from 37 to 4,093 (a prime: powers of two read badly). Times: 2 where the difference lies on one
- * side, 3 where it may lie on both, 4 where another exchange is dear. docs/USING.md has the rates. */
+/* The size of a filter for an estimated difference: so many times the estimate, made odd, from 37 to
+ * 4,093 (a prime: powers of two read badly). Times: 2 where the difference lies on one side, 3 where it may
+ * lie on both, 4 where another exchange is dear. Knowing nothing, take the size for 0, which is 37: a
+ * session doubles it until it does. docs/USING.md has the rates. */
 static inline uint32_t tandawire_size_for(uint64_t estimate, uint32_t times)
 {
     const uint32_t most = 4093;

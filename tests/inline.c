@@ -34,12 +34,20 @@ static void expect_texts(void)
 
 static void expect_stream(void)
 {
-    const uint8_t heads[4][TANDAWIRE_MESSAGE_HEAD] = {{0, 0, 2, 54}, {0, 3, 2, 54}, {0, 5, 2, 54}, {255, 255, 2, 54}};
+    const uint8_t heads[5][TANDAWIRE_MESSAGE_HEAD] = {{0, 0, 2, 54}, {0, 3, 2, 54}, {0, 5, 2, 54}, {255, 255, 2, 54}, {255, 255, 0, 0}};
+    static const uint32_t kinds[] = {TANDAWIRE_DEMAND, TANDAWIRE_INQUIRY, TANDAWIRE_OFFER, TANDAWIRE_IBF, TANDAWIRE_ELEMENT, TANDAWIRE_IBF_LAST, TANDAWIRE_DONE};
     const uint8_t element[5] = {0, 5, 2, 54, 9};
     expect("stream, 0", tandawire_message_bytes(heads[0]), 4);
     expect("stream, 3", tandawire_message_bytes(heads[1]), 4);
     expect("stream, 5", tandawire_message_bytes(heads[2]), 5);
     expect("stream, 65,535", tandawire_message_bytes(heads[3]), TANDAWIRE_MOST_MESSAGE);
+    expect("stream, no kind", tandawire_message_bytes(heads[4]), 4);
+    for (uint32_t type = 0, next = 0; type < 65536; type++) {
+        const uint8_t head[TANDAWIRE_MESSAGE_HEAD] = {1, 0, (uint8_t)(type >> 8), (uint8_t)type};
+        int known = next < 7 && type == kinds[next];
+        next += known ? 1 : 0;
+        expect("stream, every type", tandawire_message_bytes(head), known ? 256 : 4);
+    }
     tandawire_part part = tandawire_element_content(element, 5);
     expect("content, a part of the message", part.bytes == element + 4 && part.length == 1, 1);
     expect("content, cut", tandawire_element_content(element, 4).bytes == NULL, 1);
