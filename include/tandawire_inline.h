@@ -55,7 +55,7 @@ static inline const char *tandawire_refusal_text(uint32_t refusal)
         "a malformed message",
         "a message out of turn",
         "a filter that contradicts itself or our table",
-        "a message that breaks a rule of the session, or an ELEMENT whose hash was not demanded",
+        "a broken rule of the session, or a wrong hash",
         "checksums that differ",
         "too many swaps",
         "too many elements",
