@@ -183,16 +183,16 @@ static void attack_offers(void)
 {
     const tandawire_session *active = &scenes[ACTIVE_OFFER].session, *passive = &scenes[PASSIVE_OFFER].session;
     const uint8_t *held = pick(&honest.store, &peer.store, 1)->hash, *wanted = scenes[ACTIVE_OFFER].due.bytes + TANDAWIRE_MESSAGE_HEAD;
-    uint8_t junk[TANDAWIRE_HASH_BYTES], twin[TANDAWIRE_HASH_BYTES];
+    uint8_t junk[TANDAWIRE_HASH_BYTES], sharing[TANDAWIRE_HASH_BYTES];
     const uint32_t offer = TANDAWIRE_OFFER;
     forge_junk(junk);
-    forge_junk(twin);
-    memcpy(twin, wanted, 8);
+    forge_junk(sharing);
+    memcpy(sharing, wanted, 8);
     aborts(active, forge_hashes(&m, offer, wanted, junk), "OFFER: one that we inquired and one that we did not", TANDAWIRE_REFUSED_BREACH);
-    aborts(active, forge_hashes(&m, offer, wanted, twin), "OFFER: two hashes that share an ID", TANDAWIRE_REFUSED_BREACH);
+    aborts(active, forge_hashes(&m, offer, wanted, sharing), "OFFER: two hashes that share an ID", TANDAWIRE_REFUSED_BREACH);
     aborts(passive, &m, "OFFER: two hashes that share an ID", TANDAWIRE_REFUSED_BREACH);
-    memcpy(twin, held, 8);
-    aborts(passive, forge_hashes(&m, offer, twin, NULL), "OFFER: a hash that shares its ID with one we hold", TANDAWIRE_REFUSED_BREACH);
+    memcpy(sharing, held, 8);
+    aborts(passive, forge_hashes(&m, offer, sharing, NULL), "OFFER: a hash that shares its ID with one we hold", TANDAWIRE_REFUSED_BREACH);
     goes_on(active, forge_hashes(&m, offer, held, held), "OFFER: one that we hold, twice", UNCHANGED);
     goes_on(active, forge_hashes(&m, offer, wanted, wanted), "OFFER: one that we inquired, twice", WRITTEN);
     goes_on(&after, &m, "OFFER: the same once more", UNCHANGED);

@@ -16,7 +16,7 @@ pub fn compare(tally: &mut Tally) {
         pools.push(Pool::new(&mut random, size, keys));
     }
     for pool in &pools {
-        twins(tally, &mut random, pool);
+        same_places(tally, &mut random, pool);
         two_and_one(tally, &mut random, pool);
     }
     let mut random = tally.subject("elements that come back", 0x71);
@@ -33,7 +33,7 @@ pub fn compare(tally: &mut Tally) {
 
 /// One of ours and one of theirs, or two of a side, in the same three places: nothing is pure,
 /// and count 0 is not empty.
-fn twins(tally: &mut Tally, random: &mut Random, pool: &Pool) {
+fn same_places(tally: &mut Tally, random: &mut Random, pool: &Pool) {
     for i in 0..400 {
         let two = pool.alike(random, 2);
         let n = random.pick(&[0, 1, 30]);

@@ -12,7 +12,7 @@ use std::collections::{HashMap, HashSet};
 pub fn compare(tally: &mut Tally) {
     random_sets(tally);
     crowded(tally);
-    twins(tally);
+    same_places(tally);
     two_and_one(tally);
 }
 
@@ -141,8 +141,8 @@ fn a_few_elsewhere(random: &mut Random, sets: &mut Sets, except: usize) {
 
 /// Two elements of one stratum in the same three places: nothing is pure there, and where each
 /// has one of them the counts are 0.
-fn twins(tally: &mut Tally) {
-    let mut random = tally.subject("estimates, twins", 0xA2);
+fn same_places(tally: &mut Tally) {
+    let mut random = tally.subject("estimates, same places", 0xA2);
     let random = &mut random;
     for i in 0..6 * STRATA {
         let stratum = i % STRATA;

@@ -1,6 +1,6 @@
 //! Comparisons of steps on ledgers that break the form, in one clause alone or in any way.
 
-use super::calls::Twin;
+use super::calls::Compared;
 use super::counts::row;
 use super::craft::new_hash;
 use super::ledger::Hash;
@@ -237,13 +237,13 @@ fn one_clause(tally: &mut Tally) {
     for i in 0..12_000 {
         let parts = some_parts(random);
         let mut good = Good::new(random, ROWS[i % 9], parts);
-        let letter = good.message(random);
+        let delivery = good.message(random);
         let mut memory = good.memory(random);
         let breaking = random.pick(&BREAKS);
         if breaking(random, &mut good, &mut memory).is_none() {
             continue;
         }
-        let (step, _) = Twin::new(memory).step(tally, random, good.numbers, &letter);
+        let (step, _) = Compared::new(memory).step(tally, random, good.numbers, &delivery);
         broken += u64::from(step.refusal == 1);
     }
     assert!(broken > 6_000, "{broken}");
@@ -262,9 +262,9 @@ fn too_many(tally: &mut Tally) {
         let over = i % 2;
         let parts = [table, met, unmet, open + over];
         let good = Good::new(random, row_of, parts);
-        let letter = good.message(random);
-        let mut twin = good.twin(random);
-        let (step, _) = twin.step(tally, random, good.numbers, &letter);
+        let delivery = good.message(random);
+        let mut compared = good.compared(random);
+        let (step, _) = compared.step(tally, random, good.numbers, &delivery);
         assert!((step.refusal == 1) == (over == 1), "{}", row(&good.numbers));
     }
 }
@@ -278,10 +278,10 @@ fn counts_of_columns(tally: &mut Tally) {
             for count in [-1, 1 << 32, i64::MIN, i64::MAX, (1 << 32) - 1, 0] {
                 let parts = some_parts(random);
                 let good = Good::new(random, row_of, parts);
-                let letter = good.message(random);
-                let mut twin = good.twin(random);
-                twin.change(|memory| lent(&mut memory.counts)[place] = count);
-                let (step, _) = twin.step(tally, random, good.numbers, &letter);
+                let delivery = good.message(random);
+                let mut compared = good.compared(random);
+                compared.change(|memory| lent(&mut memory.counts)[place] = count);
+                let (step, _) = compared.step(tally, random, good.numbers, &delivery);
                 let broken = row_of.0 == 1 && place < 2520 && !(0..1 << 32).contains(&count);
                 assert!((step.refusal == 1) == broken);
             }
@@ -296,7 +296,7 @@ fn any_way(tally: &mut Tally) {
     for i in 0..6_000 {
         let parts = some_parts(random);
         let mut good = Good::new(random, ROWS[i % 9], parts);
-        let letter = good.message(random);
+        let delivery = good.message(random);
         let mut memory = good.memory(random);
         match random.below(6) {
             0 => {
@@ -321,6 +321,6 @@ fn any_way(tally: &mut Tally) {
                 }
             }
         }
-        Twin::new(memory).step(tally, random, good.numbers, &letter);
+        Compared::new(memory).step(tally, random, good.numbers, &delivery);
     }
 }

@@ -11,43 +11,43 @@ use crate::{lent, Tally};
 
 /// A message on its way, and the hash that the caller works out where it is an ELEMENT.
 #[derive(Clone, Debug, PartialEq)]
-pub struct Letter {
+pub struct Delivery {
     pub bytes: Vec<u8>,
     pub hash: Vec<u8>,
 }
 
-impl Letter {
+impl Delivery {
     /// A message with any hash beside it.
-    pub fn new(random: &mut Random, bytes: Vec<u8>) -> Letter {
+    pub fn new(random: &mut Random, bytes: Vec<u8>) -> Delivery {
         let len = random.pick(&[64, 64, 64, 64, 65, 80]);
         let hash = random.bytes(len);
-        Letter { bytes, hash }
+        Delivery { bytes, hash }
     }
 
     /// An ELEMENT of this hash; what it says is not looked at.
-    pub fn element(random: &mut Random, hash: &Hash) -> Letter {
+    pub fn element(random: &mut Random, hash: &Hash) -> Delivery {
         let len = match random.below(150) {
             0 => layout::MOST_CONTENT,
             _ => random.pick(&[1, 2, 60, 64, 68]),
         };
         let content = random.bytes(len);
-        let mut letter = Letter::new(random, layout::framed(layout::ELEMENT, &content));
-        letter.hash[..64].copy_from_slice(hash);
-        letter
+        let mut delivery = Delivery::new(random, layout::framed(layout::ELEMENT, &content));
+        delivery.hash[..64].copy_from_slice(hash);
+        delivery
     }
 }
 
-/// The same memory twice, and once more as it was before a trial.
-pub struct Twin {
+/// The model's memory and the library's side by side, and once more as it was before a trial.
+pub struct Compared {
     pub model: Memory,
     library: Memory,
     kept: Option<Memory>,
     kept_is_current: bool,
 }
 
-impl Twin {
-    pub fn new(memory: Memory) -> Twin {
-        Twin {
+impl Compared {
+    pub fn new(memory: Memory) -> Compared {
+        Compared {
             library: memory.clone(),
             model: memory,
             kept: None,
@@ -55,8 +55,8 @@ impl Twin {
         }
     }
 
-    pub fn with_room(random: &mut Random, table: &[u8]) -> Twin {
-        Twin::new(Memory::with_room(random, table))
+    pub fn with_room(random: &mut Random, table: &[u8]) -> Compared {
+        Compared::new(Memory::with_room(random, table))
     }
 
     /// What the ledger says.
@@ -76,9 +76,9 @@ impl Twin {
         lent(&mut self.model.out)[..len].to_vec()
     }
 
-    fn lay(&mut self, random: &mut Random, letter: &Letter) {
-        set(random, &mut self.model.message, &letter.bytes);
-        set(random, &mut self.model.hash, &letter.hash);
+    fn lay(&mut self, random: &mut Random, delivery: &Delivery) {
+        set(random, &mut self.model.message, &delivery.bytes);
+        set(random, &mut self.model.hash, &delivery.hash);
         self.library.message.clone_from(&self.model.message);
         self.library.hash.clone_from(&self.model.hash);
     }
@@ -89,9 +89,9 @@ impl Twin {
         tally: &mut Tally,
         random: &mut Random,
         numbers: Numbers,
-        letter: &Letter,
+        delivery: &Delivery,
     ) -> (Step, Why) {
-        self.lay(random, letter);
+        self.lay(random, delivery);
         self.kept_is_current = false;
         self.compare(tally, numbers)
     }
@@ -102,7 +102,7 @@ impl Twin {
         tally: &mut Tally,
         random: &mut Random,
         numbers: Numbers,
-        letter: &Letter,
+        delivery: &Delivery,
     ) -> (Step, Why) {
         if !self.kept_is_current {
             match &mut self.kept {
@@ -111,7 +111,7 @@ impl Twin {
             }
             self.kept_is_current = true;
         }
-        self.lay(random, letter);
+        self.lay(random, delivery);
         let (step, why) = self.compare(tally, numbers);
         if matches!(step.refusal, 0 | 6 | 9 | 10) {
             let kept = self.kept.as_ref().expect("kept above");

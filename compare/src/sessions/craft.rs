@@ -1,6 +1,6 @@
-//! Messages made up for a house whose ledger is known: good ones, and ones that just break a rule.
+//! Messages made up for a peer whose ledger is known: good ones, and ones that just break a rule.
 
-use super::calls::Letter;
+use super::calls::Delivery;
 use super::ledger::{xor, Hash, Ledger};
 use super::memory::Numbers;
 use crate::filters::{id_of, HASH};
@@ -8,7 +8,7 @@ use crate::messages::layout::Message;
 use crate::random::Random;
 use std::collections::BTreeSet;
 
-/// What is known of the house.
+/// What is known of the peer.
 pub struct Known {
     pub numbers: Numbers,
     pub ledger: Ledger,
@@ -94,11 +94,11 @@ fn near(random: &mut Random, hash: &Hash) -> Hash {
     hash
 }
 
-fn letter(random: &mut Random, message: &Message) -> Option<Letter> {
-    Some(Letter::new(random, message.bytes()))
+fn delivery(random: &mut Random, message: &Message) -> Option<Delivery> {
+    Some(Delivery::new(random, message.bytes()))
 }
 
-type Made = Option<Letter>;
+type Made = Option<Delivery>;
 
 pub type Trick = fn(&mut Random, &Known) -> Made;
 
@@ -121,7 +121,7 @@ fn askable(random: &mut Random, known: &Known) -> Vec<u64> {
 fn inquiry(random: &mut Random, salt: u32, ids: Vec<u64>) -> Made {
     match ids.len() {
         0 => None,
-        _ => letter(random, &Message::Inquiry { salt, ids }),
+        _ => delivery(random, &Message::Inquiry { salt, ids }),
     }
 }
 
@@ -195,7 +195,7 @@ fn offerable(random: &mut Random, known: &Known) -> Vec<Hash> {
 
 fn offer(random: &mut Random, hashes: Vec<Hash>) -> Made {
     match hashes.len() {
-        1..=1023 => letter(random, &Message::Offer(hashes.concat())),
+        1..=1023 => delivery(random, &Message::Offer(hashes.concat())),
         _ => None,
     }
 }
@@ -262,7 +262,7 @@ fn offer_shared_within(random: &mut Random, known: &Known) -> Made {
 
 fn demand(random: &mut Random, hashes: Vec<Hash>) -> Made {
     match hashes.len() {
-        1..=1023 => letter(random, &Message::Demand(hashes.concat())),
+        1..=1023 => delivery(random, &Message::Demand(hashes.concat())),
         _ => None,
     }
 }
@@ -316,7 +316,7 @@ fn demand_near(random: &mut Random, known: &Known) -> Made {
 
 fn element_of(random: &mut Random, list: &[Hash]) -> Made {
     let hash = one_of(random, list)?;
-    Some(Letter::element(random, &hash))
+    Some(Delivery::element(random, &hash))
 }
 
 fn element_good(random: &mut Random, known: &Known) -> Made {
@@ -337,7 +337,7 @@ fn element_near(random: &mut Random, known: &Known) -> Made {
     let all = [&known.unmet[..], &known.held].concat();
     let hash = one_of(random, &all).unwrap_or(any);
     let hash = near(random, &hash);
-    Some(Letter::element(random, &hash))
+    Some(Delivery::element(random, &hash))
 }
 
 fn done_right(random: &mut Random, known: &Known) -> Made {
@@ -346,14 +346,14 @@ fn done_right(random: &mut Random, known: &Known) -> Made {
     for hash in &known.unmet {
         sum = xor(&sum, hash);
     }
-    letter(random, &Message::Done(sum.to_vec()))
+    delivery(random, &Message::Done(sum.to_vec()))
 }
 
 fn done_wrong(random: &mut Random, known: &Known) -> Made {
     let sum = known.ledger.checksum();
     let near = near(random, &sum);
     let other = random.pick(&[[0; HASH], near, near]);
-    letter(random, &Message::Done(other.to_vec()))
+    delivery(random, &Message::Done(other.to_vec()))
 }
 
 /// Those that are good, where the ledger allows it.

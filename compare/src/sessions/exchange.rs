@@ -15,7 +15,7 @@ pub struct Session {
     pub far: Hash,
 }
 
-/// Messages to be sent, or hashes of slips to be sent.
+/// Messages to be sent, or hashes of elements to be sent.
 pub struct Due {
     pub messages: Vec<Message>,
     pub bare: Vec<Hash>,

@@ -1,6 +1,6 @@
-//! Comparisons of honest pairs that run to the end, each step of both houses.
+//! Comparisons of honest pairs that run to the end, each step of both peers.
 
-use super::house::{Pair, PairEnd, Tables};
+use super::peer::{Pair, PairEnd, Tables};
 use crate::pool::Pool;
 use crate::random::Random;
 use crate::sets::{some_ids, some_salt, some_size};
@@ -9,7 +9,7 @@ use crate::{model, Tally};
 pub fn compare(tally: &mut Tally) {
     tally.sessions.sort = "honest";
     small(tally);
-    knots(tally);
+    stopping_sets(tally);
     powers_of_two(tally);
     large(tally);
 }
@@ -32,10 +32,7 @@ pub fn pair_of(
 fn one(tally: &mut Tally, random: &mut Random, shape: Shape, filter: (u32, u32)) -> (PairEnd, u32) {
     let mut pair = pair_of(tally, random, shape, filter);
     let end = pair.run(tally, random, |_, _, _| {});
-    (
-        end,
-        pair.houses.iter().map(|house| house.numbers.swaps).sum(),
-    )
+    (end, pair.peers.iter().map(|peer| peer.numbers.swaps).sum())
 }
 
 /// A shape of a small session, equal and empty tables among them.
@@ -68,7 +65,7 @@ fn small(tally: &mut Tally) {
         let tables = Tables::new(random, &ids, [shape[0], shape[1]]);
         let mut pair = Pair::new(tally, random, &tables, filter);
         assert!(pair.run(tally, random, |_, _, _| {}) == PairEnd::Finished);
-        let swaps: u32 = pair.houses.iter().map(|house| house.numbers.swaps).sum();
+        let swaps: u32 = pair.peers.iter().map(|peer| peer.numbers.swaps).sum();
         swapped[swaps as usize] += 1;
     }
     assert!(
@@ -77,25 +74,26 @@ fn small(tally: &mut Tally) {
     );
 }
 
-/// Elements that share their places at the first size and salt: nothing else tells them apart.
-fn knots(tally: &mut Tally) {
-    let mut random = tally.subject("honest pairs with knots", 0x211);
+/// Stopping sets of two: elements that share their places at the first size and salt, so that nothing
+/// else tells them apart.
+fn stopping_sets(tally: &mut Tally) {
+    let mut random = tally.subject("honest pairs with stopping sets", 0x211);
     let random = &mut random;
     let pools = [37, 64].map(|size| Pool::new(random, size, 40_000));
     for i in 0..120 {
         let pool = &pools[i % 2];
         let salt = some_salt(random);
         let alike = pool.alike(random, 2);
-        let knot: Vec<u64> = alike.iter().map(|&key| model::unsalt(key, salt)).collect();
+        let stopping_set: Vec<u64> = alike.iter().map(|&key| model::unsalt(key, salt)).collect();
         let [common, others] = [random.below(20), random.below(6)].map(|n| n as usize);
         let mut ids = some_ids(random, common + others);
-        ids.splice(common..common, knot);
+        ids.splice(common..common, stopping_set);
         // Both on one side, or one on each.
         let sender = random.pick(&[0, 1, 2, 2 + others]);
         let tables = Tables::new(random, &ids, [common, sender]);
         let mut pair = Pair::new(tally, random, &tables, (pool.size, salt));
         assert!(pair.run(tally, random, |_, _, _| {}) == PairEnd::Finished);
-        assert!(pair.houses.iter().any(|house| house.numbers.swaps > 0));
+        assert!(pair.peers.iter().any(|peer| peer.numbers.swaps > 0));
     }
 }
 
@@ -120,7 +118,7 @@ fn powers_of_two(tally: &mut Tally) {
 fn large(tally: &mut Tally) {
     let mut random = tally.subject("honest pairs, large", 0x213);
     let random = &mut random;
-    use PairEnd::{Finished, TooManySlips, TooManySwaps};
+    use PairEnd::{Finished, TooManyElements, TooManySwaps};
     for (size, shape, wanted) in [
         // Over 1,023 offered at once, and over 1,023 inquired.
         (2521, [10, 0, 1100], Finished),
@@ -132,9 +130,9 @@ fn large(tally: &mut Tally) {
         (100, [4056, 40, 0], Finished),
         (4095, [3400, 348, 348], Finished),
         // One more than there may be: the receiver sees it when it reads.
-        (37, [4092, 4, 1], TooManySlips),
-        (37, [4093, 1, 3], TooManySlips),
-        (3000, [3900, 97, 100], TooManySlips),
+        (37, [4092, 4, 1], TooManyElements),
+        (37, [4093, 1, 3], TooManyElements),
+        (3000, [3900, 97, 100], TooManyElements),
         // Stuck at every size, and false at 4,096.
         (4096, [0, 2048, 2048], TooManySwaps),
         (4096, [100, 700, 700], TooManySwaps),
@@ -142,7 +140,7 @@ fn large(tally: &mut Tally) {
         let filter = (size, some_salt(random));
         let (end, swaps) = one(tally, random, shape, filter);
         assert!(end == wanted, "{shape:?} at {size} ends {end:?}");
-        // The house that read first refuses its 17th swap.
+        // The peer that read first refuses its 17th swap.
         assert!(wanted != TooManySwaps || swaps == 32, "{swaps}");
     }
 }

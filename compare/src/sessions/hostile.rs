@@ -1,10 +1,10 @@
 //! Comparisons of sessions with a far end that keeps to nothing: at any point of an honest session
-//! something else is tried, and houses that are sent whatever comes to mind.
+//! something else is tried, and peers that are sent whatever comes to mind.
 
-use super::calls::Letter;
+use super::calls::Delivery;
 use super::craft::{Known, Trick, BAD, GOOD};
 use super::honest::{pair_of, some_shape, Shape};
-use super::house::House;
+use super::peer::Peer;
 use super::slices::{BEFORE, BETWEEN};
 use super::step::may_come;
 use crate::filters::HASH;
@@ -20,8 +20,8 @@ pub fn compare(tally: &mut Tally) {
     wild(tally);
 }
 
-/// A message for a house of which this is known, good or bad; few are of a kind that may not come.
-pub fn made_up(random: &mut Random, known: &Known) -> Letter {
+/// A message for a peer of which this is known, good or bad; few are of a kind that may not come.
+pub fn made_up(random: &mut Random, known: &Known) -> Delivery {
     loop {
         let slices: &[Trick] = match known.numbers.state {
             1 => &BETWEEN,
@@ -32,26 +32,26 @@ pub fn made_up(random: &mut Random, known: &Known) -> Letter {
             1 => &GOOD,
             _ => &BAD,
         };
-        let Some(letter) = random.pick(tricks)(random, known) else {
+        let Some(delivery) = random.pick(tricks)(random, known) else {
             continue;
         };
-        let kind = layout::read(&letter.bytes).kind;
+        let kind = layout::read(&delivery.bytes).kind;
         let ended = known.numbers.state > 5;
         if ended || may_come(&known.numbers, kind) || random.once_in(6) {
-            return letter;
+            return delivery;
         }
     }
 }
 
 /// The message with one thing wrong: a bit, a byte, a number, its length, or what is behind it.
-pub fn damaged(random: &mut Random, letter: &Letter) -> Letter {
-    let mut letter = letter.clone();
-    let bytes = &mut letter.bytes;
+pub fn damaged(random: &mut Random, delivery: &Delivery) -> Delivery {
+    let mut delivery = delivery.clone();
+    let bytes = &mut delivery.bytes;
     let len = bytes.len();
     let any = random.below(len.max(1) as u64) as usize;
     if len < 4 {
         bytes.push(random.next() as u8);
-        return letter;
+        return delivery;
     }
     match random.below(10) {
         0 => bytes[any] ^= 1 << random.below(8),
@@ -89,11 +89,11 @@ pub fn damaged(random: &mut Random, letter: &Letter) -> Letter {
             model::put_number(bytes, at, k, number);
         }
     }
-    letter
+    delivery
 }
 
 /// Bytes that are no message.
-fn no_message(random: &mut Random, next: &Letter) -> Letter {
+fn no_message(random: &mut Random, next: &Delivery) -> Delivery {
     let bytes = match random.below(6) {
         0 => Vec::new(),
         // So long that 16 bits do not hold its length, but for what they do hold.
@@ -110,47 +110,47 @@ fn no_message(random: &mut Random, next: &Letter) -> Letter {
             random.bytes(len)
         }
     };
-    Letter::new(random, bytes)
+    Delivery::new(random, bytes)
 }
 
 /// What has been sent before, in this session and in others.
 #[derive(Default)]
 struct Past {
-    here: Vec<Letter>,
-    elsewhere: Vec<Letter>,
+    here: Vec<Delivery>,
+    elsewhere: Vec<Delivery>,
 }
 
 impl Past {
-    fn one(random: &mut Random, letters: &[Letter]) -> Option<Letter> {
-        match letters {
+    fn one(random: &mut Random, deliveries: &[Delivery]) -> Option<Delivery> {
+        match deliveries {
             [] => None,
-            _ => Some(letters[random.below(letters.len() as u64) as usize].clone()),
+            _ => Some(deliveries[random.below(deliveries.len() as u64) as usize].clone()),
         }
     }
 }
 
-fn trial(tally: &mut Tally, random: &mut Random, house: &mut House, past: &Past) {
-    let next = house.inbox[0].clone();
-    let numbers = house.numbers;
-    let later = random.below(house.inbox.len() as u64) as usize;
-    let letter = match random.below(10) {
+fn trial(tally: &mut Tally, random: &mut Random, peer: &mut Peer, past: &Past) {
+    let next = peer.inbox[0].clone();
+    let numbers = peer.numbers;
+    let later = random.below(peer.inbox.len() as u64) as usize;
+    let delivery = match random.below(10) {
         0 => damaged(random, &next),
         1 => no_message(random, &next),
-        2 => house.inbox[later].clone(),
+        2 => peer.inbox[later].clone(),
         3 => Past::one(random, &past.here).unwrap_or(next),
         4 => Past::one(random, &past.elsewhere).unwrap_or(next),
         // Good, but with another hash beside it.
-        5 => Letter::new(random, next.bytes),
+        5 => Delivery::new(random, next.bytes),
         _ => {
-            let known = Known::new(numbers, house.twin.ledger(&numbers));
-            let letter = made_up(random, &known);
+            let known = Known::new(numbers, peer.compared.ledger(&numbers));
+            let delivery = made_up(random, &known);
             match random.once_in(6) {
-                true => damaged(random, &letter),
-                false => letter,
+                true => damaged(random, &delivery),
+                false => delivery,
             }
         }
     };
-    house.twin.trial(tally, random, numbers, &letter);
+    peer.compared.trial(tally, random, numbers, &delivery);
 }
 
 /// Before the steps of honest sessions something else is tried and taken back.
@@ -173,7 +173,7 @@ fn at_any_point(tally: &mut Tally) {
 fn one(tally: &mut Tally, random: &mut Random, past: &mut Past, shape: Shape, filter: (u32, u32)) {
     tally.sessions.sort = "honest";
     let mut pair = pair_of(tally, random, shape, filter);
-    pair.run(tally, random, |tally, random, house| {
+    pair.run(tally, random, |tally, random, peer| {
         tally.sessions.sort = "hostile";
         let is_long = shape.iter().sum::<usize>() > 500;
         let trials = random.pick(&[0, 1, 2, 6]);
@@ -183,19 +183,19 @@ fn one(tally: &mut Tally, random: &mut Random, past: &mut Past, shape: Shape, fi
             trials
         };
         for _ in 0..trials {
-            trial(tally, random, house, past);
+            trial(tally, random, peer, past);
         }
         tally.sessions.sort = "honest";
         if past.here.len() < 300 {
-            past.here.push(house.inbox[0].clone());
+            past.here.push(peer.inbox[0].clone());
         }
     });
     tally.sessions.sort = "hostile";
-    for house in &mut pair.houses {
-        let numbers = house.numbers;
+    for peer in &mut pair.peers {
+        let numbers = peer.numbers;
         // Whatever comes after the end.
-        for letter in past.here.iter().rev().take(2) {
-            house.twin.trial(tally, random, numbers, letter);
+        for delivery in past.here.iter().rev().take(2) {
+            peer.compared.trial(tally, random, numbers, delivery);
         }
     }
     let here = std::mem::take(&mut past.here);
@@ -206,7 +206,7 @@ fn one(tally: &mut Tally, random: &mut Random, past: &mut Past, shape: Shape, fi
         .collect();
 }
 
-/// Houses that are sent made up messages one after the other; what is refused is as if it had not
+/// Peers that are sent made up messages one after the other; what is refused is as if it had not
 /// been sent.
 fn wild(tally: &mut Tally) {
     let mut random = tally.subject("wild sessions", 0x221);
@@ -216,25 +216,25 @@ fn wild(tally: &mut Tally) {
         let n = if i % 100 == 7 { 1200 } else { n };
         let table = some_table(random, n);
         let filter = (size_of_wild(random), some_salt(random));
-        let mut house = match i % 2 {
-            0 => House::receiver(tally, random, &table),
-            _ => House::sender(tally, random, &table, filter).0,
+        let mut peer = match i % 2 {
+            0 => Peer::receiver(tally, random, &table),
+            _ => Peer::sender(tally, random, &table, filter).0,
         };
         if i % 5 == 0 {
-            house.numbers.swaps = random.pick(&[1, 14, 15, 16]);
+            peer.numbers.swaps = random.pick(&[1, 14, 15, 16]);
         }
         for _ in 0..random.pick(&[5, 30, 30, 60]) {
-            let numbers = house.numbers;
-            let known = Known::new(numbers, house.twin.ledger(&numbers));
-            let mut letter = made_up(random, &known);
+            let numbers = peer.numbers;
+            let known = Known::new(numbers, peer.compared.ledger(&numbers));
+            let mut delivery = made_up(random, &known);
             if random.once_in(12) {
-                letter = damaged(random, &letter);
+                delivery = damaged(random, &delivery);
             }
-            let (step, _) = house.twin.step(tally, random, numbers, &letter);
+            let (step, _) = peer.compared.step(tally, random, numbers, &delivery);
             if step.refusal == 0 || step.refusal == 6 {
-                house.numbers = step.next;
+                peer.numbers = step.next;
             }
-            if house.numbers.state == 6 && random.once_in(3) {
+            if peer.numbers.state == 6 && random.once_in(3) {
                 break;
             }
         }

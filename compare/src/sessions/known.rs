@@ -1,11 +1,11 @@
 //! Steps whose answers are worked out by hand from the papers: the model must give them, and so
 //! must the library.
 
-use super::calls::{Letter, Twin};
-use super::house::House;
+use super::calls::{Compared, Delivery};
 use super::ledger::{Hash, Ledger};
 use super::ledgers::Good;
 use super::memory::{Numbers, Step, FAR};
+use super::peer::Peer;
 use crate::filters::{Filter, HASH};
 use crate::messages::layout::{framed, Message, Slice, DONE, IBF};
 use crate::messages::writers;
@@ -15,21 +15,22 @@ use crate::{lent, Tally};
 pub fn compare(tally: &mut Tally) {
     tally.sessions.sort = "ledgers";
     let mut random = tally.subject("known steps", 0x280);
-    let known = &mut Desk {
+    let steps = &mut Steps {
         tally,
         random: &mut random,
     };
-    known.nothing_at_all();
-    known.order_of_refusals();
-    known.slices();
-    known.swaps();
-    known.inquiries_and_offers();
-    known.demands_and_elements();
-    known.ends();
-    known.forms();
+    steps.nothing_at_all();
+    steps.order_of_refusals();
+    steps.slices();
+    steps.swaps();
+    steps.inquiries_and_offers();
+    steps.demands_and_elements();
+    steps.ends();
+    steps.forms();
 }
 
-struct Desk<'a> {
+/// The steps, where they are counted and their random numbers.
+struct Steps<'a> {
     tally: &'a mut Tally,
     random: &'a mut Random,
 }
@@ -111,7 +112,7 @@ fn element() -> Message {
     Message::Element(vec![1, 2, 3])
 }
 
-impl Desk<'_> {
+impl Steps<'_> {
     /// Takes these bytes, and must answer this refusal and state.
     fn bytes(
         &mut self,
@@ -119,30 +120,30 @@ impl Desk<'_> {
         bytes: Vec<u8>,
         hash: &[u8],
         wanted: [u32; 2],
-    ) -> (Step, Twin) {
-        let mut twin = good.twin(self.random);
+    ) -> (Step, Compared) {
+        let mut compared = good.compared(self.random);
         let hash = hash.to_vec();
-        let letter = Letter { bytes, hash };
-        let (step, why) = twin.step(self.tally, self.random, good.numbers, &letter);
+        let delivery = Delivery { bytes, hash };
+        let (step, why) = compared.step(self.tally, self.random, good.numbers, &delivery);
         assert!([step.refusal, step.next.state] == wanted, "{why}: {step:?}");
-        (step, twin)
+        (step, compared)
     }
 
-    fn takes(&mut self, good: &Good, message: &Message, wanted: [u32; 2]) -> (Step, Twin) {
+    fn takes(&mut self, good: &Good, message: &Message, wanted: [u32; 2]) -> (Step, Compared) {
         self.bytes(good, message.bytes(), &[9; HASH], wanted)
     }
 
-    fn takes_element(&mut self, good: &Good, hash: Hash, wanted: [u32; 2]) -> (Step, Twin) {
+    fn takes_element(&mut self, good: &Good, hash: Hash, wanted: [u32; 2]) -> (Step, Compared) {
         self.bytes(good, element().bytes(), &hash, wanted)
     }
 
     /// Two empty tables: 37 buckets are 465 bytes, and both ends send a DONE of zeros.
     fn nothing_at_all(&mut self) {
         let (tally, random) = (&mut *self.tally, &mut *self.random);
-        let (mut sender, letters) = House::sender(tally, random, &[], (37, 63));
-        let mut receiver = House::receiver(tally, random, &[]);
-        assert!(letters.len() == 1 && letters[0].bytes.len() == 465);
-        let step = receiver.take(tally, random, &letters[0]);
+        let (mut sender, deliveries) = Peer::sender(tally, random, &[], (37, 63));
+        let mut receiver = Peer::receiver(tally, random, &[]);
+        assert!(deliveries.len() == 1 && deliveries[0].bytes.len() == 465);
+        let step = receiver.take(tally, random, &deliveries[0]);
         let zeros = receiver.outgoing(random, &step);
         assert!(step.next.state == 2 && zeros[0].bytes == framed(DONE, &[0; HASH]));
         let step = sender.take(tally, random, &zeros[0]);
@@ -151,10 +152,10 @@ impl Desk<'_> {
         let step = receiver.take(tally, random, &zeros[0]);
         assert!(step.next.state == 6 && step.sent == 0);
         // ID 0 alone, against nothing: it is ours.
-        let mut one = House::receiver(tally, random, &h(0, 3));
-        let step = one.take(tally, random, &letters[0]);
+        let mut one = Peer::receiver(tally, random, &h(0, 3));
+        let step = one.take(tally, random, &deliveries[0]);
         assert!(step.sent == 68 + 68 && step.next.done == 1);
-        assert!(lent(&mut one.twin.model.ours)[0] == 0);
+        assert!(lent(&mut one.compared.model.ours)[0] == 0);
     }
 
     fn order_of_refusals(&mut self) {
@@ -188,10 +189,10 @@ impl Desk<'_> {
             self.takes(&in_state(state, first), &last, [wanted, 7]);
         }
         // The first message in 3 ends it, though all of it was ignored.
-        let (step, mut twin) = self.takes(&in_state(3, 1), &inquiry(&[99, 99]), [0, 3]);
+        let (step, mut compared) = self.takes(&in_state(3, 1), &inquiry(&[99, 99]), [0, 3]);
         assert!(step.next.first == 0 && step.sent == 0);
-        let letter = Letter::new(self.random, filter(&[], 37, 9).bytes());
-        let (step, _) = twin.step(self.tally, self.random, step.next, &letter);
+        let delivery = Delivery::new(self.random, filter(&[], 37, 9).bytes());
+        let (step, _) = compared.step(self.tally, self.random, step.next, &delivery);
         assert!(step.refusal == 5);
         // A filter need not match anything of ours.
         let (step, _) = self.takes(&in_state(3, 1), &filter(&[1, 2], 37, 9), [0, 2]);
@@ -208,10 +209,10 @@ impl Desk<'_> {
         self.takes(&in_state(1, 0), &filter(&[], 100, 4), [4, 7]);
         // Columns are judged up to 2,520.
         for (place, wanted) in [(2519, [1, 1]), (2520, [5, 7])] {
-            let mut twin = half.twin(self.random);
-            twin.change(|memory| lent(&mut memory.counts)[place] = -1);
-            let letter = Letter::new(self.random, done([0; HASH]).bytes());
-            let (step, _) = twin.step(self.tally, self.random, half.numbers, &letter);
+            let mut compared = half.compared(self.random);
+            compared.change(|memory| lent(&mut memory.counts)[place] = -1);
+            let delivery = Delivery::new(self.random, done([0; HASH]).bytes());
+            let (step, _) = compared.step(self.tally, self.random, half.numbers, &delivery);
             assert!([step.refusal, step.next.state] == wanted);
         }
     }
@@ -240,13 +241,13 @@ impl Desk<'_> {
             self.takes(&good, &stuck, [0, 3]);
             good.numbers.swaps = 16;
             for message in [&stuck, &lone] {
-                let mut twin = good.twin(self.random);
-                twin.change(|memory| {
+                let mut compared = good.compared(self.random);
+                compared.change(|memory| {
                     lent(&mut memory.counts).fill(8);
                     lent(&mut memory.ours).fill(8);
                 });
-                let letter = Letter::new(self.random, message.bytes());
-                let (step, _) = twin.step(self.tally, self.random, good.numbers, &letter);
+                let delivery = Delivery::new(self.random, message.bytes());
+                let (step, _) = compared.step(self.tally, self.random, good.numbers, &delivery);
                 assert!(step.refusal == 9 && step.sent == 0);
                 assert!(
                     step.next
@@ -255,8 +256,8 @@ impl Desk<'_> {
                             ..good.numbers
                         }
                 );
-                assert!(lent(&mut twin.model.counts)[36..38] == [0, 8]);
-                assert!(lent(&mut twin.model.ours)[36..38] == [0, 8]);
+                assert!(lent(&mut compared.model.counts)[36..38] == [0, 8]);
+                assert!(lent(&mut compared.model.ours)[36..38] == [0, 8]);
             }
         }
     }
@@ -264,16 +265,16 @@ impl Desk<'_> {
     fn inquiries_and_offers(&mut self) {
         let three = in_state(3, 0);
         self.takes(&three, &inquiry(&[2, 2]), [7, 7]);
-        let (step, mut twin) = self.takes(&three, &inquiry(&[0x80, 5, 1]), [0, 3]);
-        assert!(twin.out(step.sent) == offer(&[h(0x80, 7), h(1, 7)]).bytes());
+        let (step, mut compared) = self.takes(&three, &inquiry(&[0x80, 5, 1]), [0, 3]);
+        assert!(compared.out(step.sent) == offer(&[h(0x80, 7), h(1, 7)]).bytes());
         let other = Message::Inquiry {
             salt: 5,
             ids: vec![99],
         };
         self.takes(&three, &other, [7, 7]);
 
-        let (step, mut twin) = self.takes(&three, &offer(&[h(5, 1), h(5, 1), h(1, 7)]), [0, 3]);
-        assert!(twin.out(step.sent) == demand(&[h(5, 1)]).bytes());
+        let (step, mut compared) = self.takes(&three, &offer(&[h(5, 1), h(5, 1), h(1, 7)]), [0, 3]);
+        assert!(compared.out(step.sent) == demand(&[h(5, 1)]).bytes());
         self.takes(&three, &offer(&[h(1, 8)]), [7, 7]);
         self.takes(&three, &offer(&[h(5, 1), h(5, 2)]), [7, 7]);
         self.takes(&wants_50(false), &offer(&[h(50, 1)]), [0, 2]);
@@ -296,12 +297,12 @@ impl Desk<'_> {
                 ledger.offered = [h(1, 7), h(2, 7)].into();
             });
             let both = demand(&[h(2, 7), h(1, 7)]);
-            let (step, mut twin) = self.takes(&offered, &both, [0, state]);
+            let (step, mut compared) = self.takes(&offered, &both, [0, state]);
             assert!([step.due, step.sent] == [2, 0]);
-            assert!(twin.out(2 * HASH) == [h(2, 7), h(1, 7)].concat());
+            assert!(compared.out(2 * HASH) == [h(2, 7), h(1, 7)].concat());
             // It is no broken ledger, and not to be demanded once more.
-            let letter = Letter::new(self.random, demand(&[h(1, 7)]).bytes());
-            let (step, _) = twin.step(self.tally, self.random, step.next, &letter);
+            let delivery = Delivery::new(self.random, demand(&[h(1, 7)]).bytes());
+            let (step, _) = compared.step(self.tally, self.random, step.next, &delivery);
             assert!(step.refusal == 7);
             self.takes(&offered, &demand(&[h(1, 7), h(1, 7)]), [7, 7]);
             self.takes(&offered, &demand(&[h(1, 7), h(0x80, 7)]), [7, 7]);
@@ -324,25 +325,25 @@ impl Desk<'_> {
         let (step, _) = self.takes(&in_state(2, 0), &done(now), [0, 6]);
         assert!(step.sent == 0);
         self.takes(&in_state(2, 0), &done(then), [8, 7]);
-        let (step, mut twin) = self.takes(&in_state(3, 1), &done(now), [0, 6]);
-        assert!(step.next.done == 1 && twin.out(step.sent) == done(now).bytes());
+        let (step, mut compared) = self.takes(&in_state(3, 1), &done(now), [0, 6]);
+        assert!(step.next.done == 1 && compared.out(step.sent) == done(now).bytes());
         self.takes(&in_state(3, 0), &done(then), [8, 7]);
-        let (step, mut twin) = self.takes(&demanding(3), &done(then), [0, 5]);
+        let (step, mut compared) = self.takes(&demanding(3), &done(then), [0, 5]);
         assert!(step.sent == 0 && step.next.done == 0);
-        assert!(lent(&mut twin.model.records)[FAR..FAR + HASH] == then);
+        assert!(lent(&mut compared.model.records)[FAR..FAR + HASH] == then);
         for state in [4, 5] {
             let mut last = demanding(state);
             last.far = then;
-            let (step, mut twin) = self.takes_element(&last, h(50, 1), [0, 6]);
+            let (step, mut compared) = self.takes_element(&last, h(50, 1), [0, 6]);
             let sent = if state == 5 {
                 done(then).bytes()
             } else {
                 Vec::new()
             };
-            assert!(twin.out(step.sent) == sent);
+            assert!(compared.out(step.sent) == sent);
             last.far = now;
-            let (step, mut twin) = self.takes_element(&last, h(50, 1), [8, 7]);
-            assert!(twin.ledger(&step.next).gained.is_empty());
+            let (step, mut compared) = self.takes_element(&last, h(50, 1), [8, 7]);
+            assert!(compared.ledger(&step.next).gained.is_empty());
         }
     }
 

@@ -109,7 +109,7 @@ impl Ledger {
             .collect()
     }
 
-    /// The IDs of slips held and of those wanted: inquired or demanded, unmet. Each counts once.
+    /// The IDs of elements held and of those wanted: inquired or demanded, unmet. Each counts once.
     pub fn held_and_wanted(&self) -> BTreeSet<u64> {
         let hashes = self.table.iter().chain(&self.demanded);
         let ids = hashes.map(|hash| id_of(hash));

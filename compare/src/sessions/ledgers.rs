@@ -1,6 +1,6 @@
 //! Any ledgers of good form, most of which no session reaches, and steps on them.
 
-use super::calls::{Letter, Twin};
+use super::calls::{Compared, Delivery};
 use super::craft::{shuffle, some_of, Known};
 use super::hostile::{damaged, made_up};
 use super::ledger::{hashes_of, xor, Hash, Ledger};
@@ -141,17 +141,17 @@ impl Good {
         }
     }
 
-    pub fn twin(&self, random: &mut Random) -> Twin {
-        Twin::new(self.memory(random))
+    pub fn compared(&self, random: &mut Random) -> Compared {
+        Compared::new(self.memory(random))
     }
 
     /// A message for it, seldom a damaged one.
-    pub fn message(&self, random: &mut Random) -> Letter {
+    pub fn message(&self, random: &mut Random) -> Delivery {
         let known = Known::new(self.numbers, self.ledger.clone());
-        let letter = made_up(random, &known);
+        let delivery = made_up(random, &known);
         match random.once_in(8) {
-            true => damaged(random, &letter),
-            false => letter,
+            true => damaged(random, &delivery),
+            false => delivery,
         }
     }
 }
@@ -189,19 +189,19 @@ fn any_message(tally: &mut Tally) {
     for i in 0..5_000 {
         let parts = some_parts(random);
         let good = Good::new(random, ROWS[i % 9], parts);
-        let mut twin = good.twin(random);
-        assert!(twin.ledger(&good.numbers) == good.ledger);
+        let mut compared = good.compared(random);
+        assert!(compared.ledger(&good.numbers) == good.ledger);
         for _ in 0..if good.numbers.state < 6 { 8 } else { 1 } {
-            let letter = good.message(random);
-            let (step, _) = twin.trial(tally, random, good.numbers, &letter);
+            let delivery = good.message(random);
+            let (step, _) = compared.trial(tally, random, good.numbers, &delivery);
             assert!(step.refusal != 1 && step.refusal != 2, "{:?}", good.numbers);
         }
         // The last one for good, and others behind it.
         let mut numbers = good.numbers;
         for _ in 0..random.pick(&[0, 1, 4]) {
-            let known = Known::new(numbers, twin.ledger(&numbers));
-            let letter = made_up(random, &known);
-            let (step, _) = twin.step(tally, random, numbers, &letter);
+            let known = Known::new(numbers, compared.ledger(&numbers));
+            let delivery = made_up(random, &known);
+            let (step, _) = compared.step(tally, random, numbers, &delivery);
             numbers = step.next;
         }
     }

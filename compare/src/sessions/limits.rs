@@ -1,10 +1,10 @@
-//! Comparisons of offers at the limit of slips held and wanted (refusal 10), each ID counted once.
+//! Comparisons of offers at the limit of elements held and wanted (refusal 10), an ID counted once.
 
-use super::calls::Letter;
+use super::calls::Delivery;
 use super::craft::{new_hash, shuffle};
-use super::house::House;
 use super::ledger::Hash;
 use super::ledgers::Good;
+use super::peer::Peer;
 use super::slices::messages_of;
 use crate::filters::{id_of, Filter};
 use crate::messages::layout::Message;
@@ -35,7 +35,7 @@ fn open_ids(good: &Good) -> Vec<u64> {
     inquired.filter(|id| !taken.contains(id)).collect()
 }
 
-/// A house in 3 that may want so many more; they are offered to it, and one more.
+/// A peer in 3 that may want so many more; they are offered to it, and one more.
 fn near_the_limit(
     tally: &mut Tally,
     random: &mut Random,
@@ -46,7 +46,7 @@ fn near_the_limit(
     let rest = if row.1 == 1 { 0 } else { met + unmet + open };
     let table = 4096 - rest - free;
     let good = Good::new(random, row, [table, met, unmet, open]);
-    let mut twin = good.twin(random);
+    let mut compared = good.compared(random);
     assert!(good.ledger.held_and_wanted().len() == 4096 - free);
     let open = open_ids(&good);
     for (over, wanted) in [(0, 0), (1, 10), (9, 10)] {
@@ -62,10 +62,10 @@ fn near_the_limit(
         let again = hashes[0];
         hashes.push(again);
         let offer = |random: &mut Random, hashes: &[Hash]| {
-            Letter::new(random, Message::Offer(hashes.concat()).bytes())
+            Delivery::new(random, Message::Offer(hashes.concat()).bytes())
         };
-        let letter = offer(random, &hashes);
-        let (step, _) = twin.trial(tally, random, good.numbers, &letter);
+        let delivery = offer(random, &hashes);
+        let (step, _) = compared.trial(tally, random, good.numbers, &delivery);
         assert!(
             step.refusal == wanted,
             "{over} more than {free}: {}",
@@ -73,8 +73,8 @@ fn near_the_limit(
         );
         // A shared ID is told before.
         hashes.push(new_hash(random, id_of(&good.ledger.table[0])));
-        let letter = offer(random, &hashes);
-        let (step, _) = twin.trial(tally, random, good.numbers, &letter);
+        let delivery = offer(random, &hashes);
+        let (step, _) = compared.trial(tally, random, good.numbers, &delivery);
         assert!(step.refusal == 7);
     }
 }
@@ -89,9 +89,9 @@ fn in_two(tally: &mut Tally, random: &mut Random) {
         );
         let open = open_ids(&good).into_iter();
         let hashes: Vec<Hash> = open.map(|id| new_hash(random, id)).collect();
-        let letter = Letter::new(random, Message::Offer(hashes.concat()).bytes());
-        let mut twin = good.twin(random);
-        let (step, _) = twin.step(tally, random, good.numbers, &letter);
+        let delivery = Delivery::new(random, Message::Offer(hashes.concat()).bytes());
+        let mut compared = good.compared(random);
+        let (step, _) = compared.step(tally, random, good.numbers, &delivery);
         assert!(step.refusal == 0 && step.sent > 0);
     }
 }
@@ -99,14 +99,14 @@ fn in_two(tally: &mut Tally, random: &mut Random) {
 /// The longest lists: answers of several messages, and messages that hold all they can.
 fn full_messages(tally: &mut Tally, random: &mut Random) {
     let good = Good::new(random, (3, 1), [4096, 0, 0, 0]);
-    let mut twin = good.twin(random);
+    let mut compared = good.compared(random);
     let mut ids: Vec<u64> = good.ledger.table.iter().map(|hash| id_of(hash)).collect();
     shuffle(random, &mut ids);
     ids.extend(random.numbers(8190 - 4096));
     let salt = good.numbers.salt;
     let inquiry = Message::Inquiry { salt, ids };
-    let letter = Letter::new(random, inquiry.bytes());
-    let (step, _) = twin.step(tally, random, good.numbers, &letter);
+    let delivery = Delivery::new(random, inquiry.bytes());
+    let (step, _) = compared.step(tally, random, good.numbers, &delivery);
     assert!(step.refusal == 0 && step.sent == 5 * 4 + 64 * 4096);
 
     // All of it is demanded, in full messages but for the last.
@@ -114,32 +114,32 @@ fn full_messages(tally: &mut Tally, random: &mut Random) {
     let mut hashes = good.ledger.table.clone();
     shuffle(random, &mut hashes);
     for part in hashes.chunks(1023) {
-        let letter = Letter::new(random, Message::Demand(part.concat()).bytes());
-        let (step, _) = twin.step(tally, random, numbers, &letter);
+        let delivery = Delivery::new(random, Message::Demand(part.concat()).bytes());
+        let (step, _) = compared.step(tally, random, numbers, &delivery);
         assert!(step.refusal == 0 && step.due == part.len());
         numbers = step.next;
     }
 
     // As many demands as there may be.
     let good = Good::new(random, (3, 0), [0, 0, 0, 0]);
-    let mut twin = good.twin(random);
+    let mut compared = good.compared(random);
     let mut numbers = good.numbers;
     for n in [1023, 1023, 1023, 1023, 4] {
         let ids = random.numbers(n);
         let hashes: Vec<Hash> = ids.into_iter().map(|id| new_hash(random, id)).collect();
-        let letter = Letter::new(random, Message::Offer(hashes.concat()).bytes());
-        let (step, _) = twin.step(tally, random, numbers, &letter);
+        let delivery = Delivery::new(random, Message::Offer(hashes.concat()).bytes());
+        let (step, _) = compared.step(tally, random, numbers, &delivery);
         assert!(step.refusal == 0 && step.sent == 4 + 64 * n);
         numbers = step.next;
     }
     assert!(numbers.demanded == 4096);
     let one = new_hash(random, 5);
-    let letter = Letter::new(random, Message::Offer(one.to_vec()).bytes());
-    let (step, _) = twin.trial(tally, random, numbers, &letter);
+    let delivery = Delivery::new(random, Message::Offer(one.to_vec()).bytes());
+    let (step, _) = compared.trial(tally, random, numbers, &delivery);
     assert!(step.refusal == 10);
-    for hash in twin.ledger(&numbers).demanded.iter().step_by(40) {
-        let letter = Letter::element(random, hash);
-        let (step, _) = twin.step(tally, random, numbers, &letter);
+    for hash in compared.ledger(&numbers).demanded.iter().step_by(40) {
+        let delivery = Delivery::element(random, hash);
+        let (step, _) = compared.step(tally, random, numbers, &delivery);
         assert!(step.refusal == 0);
     }
 
@@ -147,10 +147,10 @@ fn full_messages(tally: &mut Tally, random: &mut Random) {
     for (ours, theirs) in [(3200, 0), (0, 3200), (1100, 1100)] {
         let ids = some_ids(random, ours + theirs);
         let table = table_of(random, &ids[..ours]);
-        let mut house = House::receiver(tally, random, &table);
+        let mut peer = Peer::receiver(tally, random, &table);
         let far = Filter::of(&ids[ours..], 4095, 7);
-        for letter in messages_of(random, &far, 7) {
-            house.take(tally, random, &letter);
+        for delivery in messages_of(random, &far, 7) {
+            peer.take(tally, random, &delivery);
         }
     }
 }

@@ -1,15 +1,15 @@
 //! Mutated calls, many of them: on ledgers of every state and at any point of honest sessions steps
 //! are made whose message, ledger, numbers or lengths are changed at random, and some as they are.
 //! Those that are accepted may stay, and what follows begins from what they left. What is compared
-//! when is told in desk.rs.
+//! when is told in fixture.rs.
 
 mod counts;
-mod desk;
+mod deliveries;
+mod fixture;
 mod ledgers;
 mod lengths;
-mod letters;
 
-use super::calls::Letter;
+use super::calls::Delivery;
 use super::craft::{new_hash, Known, GOOD};
 use super::honest::{pair_of, some_shape};
 use super::hostile::made_up;
@@ -24,13 +24,13 @@ use crate::random::Random;
 use crate::sets::{some_salt, some_size};
 use crate::Tally;
 use counts::Counts;
-use desk::{writes, Call, Desk, Lengths, HASH_AT, MESSAGE_AT};
+use fixture::{writes, Call, Fixture, Lengths, HASH_AT, MESSAGE_AT};
 
 /// What is kept from session to session.
 struct Run {
     counts: Counts,
     /// Messages of other sessions.
-    past: Vec<Letter>,
+    past: Vec<Delivery>,
 }
 
 /// Makes so many mutated calls, and others; whether they are enough, of each answer too.
@@ -56,7 +56,7 @@ pub fn compare(tally: &mut Tally, calls: u64, seed: u64) -> bool {
 const MORE: [(u32, u32); 5] = [(0, 0), (1, 0), (2, 0), (3, 0), (3, 1)];
 
 /// A ledger near the limit of what may be held and wanted, and messages that reach and pass it.
-fn at_limit(random: &mut Random) -> (Good, Vec<Letter>) {
+fn at_limit(random: &mut Random) -> (Good, Vec<Delivery>) {
     let row = random.pick(&MORE);
     let few = random.pick(&[[3, 4, 5], [0, 0, 9], [20, 30, 50], [0, 0, 0]]);
     let has_few = row == (2, 0) || row == (3, 0);
@@ -64,21 +64,21 @@ fn at_limit(random: &mut Random) -> (Good, Vec<Letter>) {
     let free = random.pick(&[0, 0, 1, 2, 9]);
     let [met, unmet, open] = few;
     let good = Good::new(random, row, [4096 - rest - free, met, unmet, open]);
-    let mut letters = Vec::new();
+    let mut deliveries = Vec::new();
     for n in [free, free + 1, free + 1] {
         let fresh = random.numbers(n);
         let hashes = fresh.iter().map(|&id| new_hash(random, id));
         let hashes: Vec<Hash> = hashes.chain([good.ledger.table[0]]).collect();
         let offer = Message::Offer(hashes.concat()).bytes();
-        letters.push(Letter::new(random, offer));
+        deliveries.push(Delivery::new(random, offer));
 
         let ids = good.ledger.table.iter().map(|hash| id_of(hash));
         let ids: Vec<u64> = ids.chain(fresh).collect();
         let (size, salt) = (some_size(random, 90), some_salt(random));
         let filter = Filter::of(&ids, size, salt);
-        letters.extend(messages_of(random, &filter, salt));
+        deliveries.extend(messages_of(random, &filter, salt));
     }
-    (good, letters)
+    (good, deliveries)
 }
 
 /// Mostly few elements, now and then many.
@@ -94,17 +94,17 @@ fn some_ledger(random: &mut Random) -> Good {
 
 /// Rounds of calls on a ledger of good form.
 fn on_ledger(tally: &mut Tally, random: &mut Random, run: &mut Run) {
-    let (good, letters) = match random.below(50) {
+    let (good, deliveries) = match random.below(50) {
         0 => at_limit(random),
         _ => (some_ledger(random), Vec::new()),
     };
     let memory = good.memory(random);
-    let mut desk = Desk::new(random, memory, good.numbers);
-    rounds(tally, random, run, &mut desk, &letters);
-    desk.drop_whole();
+    let mut fixture = Fixture::new(random, memory, good.numbers);
+    rounds(tally, random, run, &mut fixture, &deliveries);
+    fixture.drop_whole();
 }
 
-/// Rounds of calls at some points of an honest session, on a copy of the house whose turn it is.
+/// Rounds of calls at some points of an honest session, on a copy of the peer whose turn it is.
 fn in_session(tally: &mut Tally, random: &mut Random, run: &mut Run) {
     let size = match random.below(30) {
         0 => random.between(2521, 2600) as u32,
@@ -113,14 +113,14 @@ fn in_session(tally: &mut Tally, random: &mut Random, run: &mut Run) {
     let filter = (size, some_salt(random));
     let shape = some_shape(random);
     let mut pair = pair_of(tally, random, shape, filter);
-    pair.run(tally, random, |tally, random, house| {
+    pair.run(tally, random, |tally, random, peer| {
         if !random.once_in(8) || run.counts.are_made() {
             return;
         }
-        let mut desk = Desk::new(random, house.twin.model.clone(), house.numbers);
-        let letters: Vec<Letter> = house.inbox.iter().take(3).cloned().collect();
-        rounds(tally, random, run, &mut desk, &letters);
-        desk.drop_whole();
+        let mut fixture = Fixture::new(random, peer.compared.model.clone(), peer.numbers);
+        let deliveries: Vec<Delivery> = peer.inbox.iter().take(3).cloned().collect();
+        rounds(tally, random, run, &mut fixture, &deliveries);
+        fixture.drop_whole();
     });
 }
 
@@ -129,40 +129,40 @@ fn rounds(
     tally: &mut Tally,
     random: &mut Random,
     run: &mut Run,
-    desk: &mut Desk,
-    given: &[Letter],
+    fixture: &mut Fixture,
+    given: &[Delivery],
 ) {
-    let is_large = desk.elements() > 90;
+    let is_large = fixture.elements() > 90;
     let rounds = random.between(1, if is_large { 2 } else { 8 });
     for i in 0..rounds {
-        let mut letters = letters_for(random, desk);
+        let mut deliveries = deliveries_for(random, fixture);
         if i == 0 {
-            letters.extend(given.iter().cloned());
+            deliveries.extend(given.iter().cloned());
         }
-        let has_ended = desk.numbers.state > 5;
+        let has_ended = fixture.numbers.state > 5;
         let calls = if has_ended { 8 } else { random.between(10, 50) };
         for _ in 0..calls {
-            if run.counts.are_made() || one(tally, random, run, desk, &letters) {
+            if run.counts.are_made() || one(tally, random, run, fixture, &deliveries) {
                 break;
             }
         }
-        remember(random, run, letters);
+        remember(random, run, deliveries);
         if has_ended {
             break;
         }
     }
 }
 
-/// Some letters for a session, good and bad; the second half of them are to be good.
-fn letters_for(random: &mut Random, desk: &mut Desk) -> Vec<Letter> {
-    let known = Known::new(desk.numbers, desk.ledger());
-    let mut letters: Vec<Letter> = (0..4).map(|_| made_up(random, &known)).collect();
-    letters.extend((0..4).filter_map(|_| good(random, &known)));
-    letters
+/// Some deliveries for a session, good and bad; the second half of them are to be good.
+fn deliveries_for(random: &mut Random, fixture: &mut Fixture) -> Vec<Delivery> {
+    let known = Known::new(fixture.numbers, fixture.ledger());
+    let mut deliveries: Vec<Delivery> = (0..4).map(|_| made_up(random, &known)).collect();
+    deliveries.extend((0..4).filter_map(|_| good(random, &known)));
+    deliveries
 }
 
 /// A good message that may come, if one is found.
-fn good(random: &mut Random, known: &Known) -> Option<Letter> {
+fn good(random: &mut Random, known: &Known) -> Option<Delivery> {
     (0..20).find_map(|_| {
         let trick = match known.numbers.state {
             0 => random.pick(&BEFORE),
@@ -170,23 +170,23 @@ fn good(random: &mut Random, known: &Known) -> Option<Letter> {
             3 if random.once_in(4) => random.pick(&BEFORE),
             _ => random.pick(&GOOD),
         };
-        let letter = trick(random, known)?;
-        let kind = layout::read(&letter.bytes).kind;
-        (known.numbers.state > 5 || may_come(&known.numbers, kind)).then_some(letter)
+        let delivery = trick(random, known)?;
+        let kind = layout::read(&delivery.bytes).kind;
+        (known.numbers.state > 5 || may_come(&known.numbers, kind)).then_some(delivery)
     })
 }
 
 /// Keeps some short messages for later sessions.
-fn remember(random: &mut Random, run: &mut Run, letters: Vec<Letter>) {
+fn remember(random: &mut Random, run: &mut Run, deliveries: Vec<Delivery>) {
     const MOST: usize = 100;
-    for letter in letters {
-        if letter.bytes.len() > 4_000 || !random.once_in(4) {
+    for delivery in deliveries {
+        if delivery.bytes.len() > 4_000 || !random.once_in(4) {
             continue;
         }
         if run.past.len() == MOST {
             run.past.swap_remove(random.below(MOST as u64) as usize);
         }
-        run.past.push(letter);
+        run.past.push(delivery);
     }
 }
 
@@ -200,25 +200,25 @@ fn one(
     tally: &mut Tally,
     random: &mut Random,
     run: &mut Run,
-    desk: &mut Desk,
-    letters: &[Letter],
+    fixture: &mut Fixture,
+    deliveries: &[Delivery],
 ) -> bool {
-    let letter = letters[random.below(letters.len() as u64) as usize].clone();
+    let delivery = deliveries[random.below(deliveries.len() as u64) as usize].clone();
     let mut call = Call {
-        numbers: desk.numbers,
-        lengths: desk.lengths,
-        letter,
+        numbers: fixture.numbers,
+        lengths: fixture.lengths,
+        delivery,
         kinds: Vec::new(),
     };
     let others = if random.once_in(2) {
-        letters
+        deliveries
     } else {
         &run.past
     };
-    mutate(random, desk, &mut call, others);
+    mutate(random, fixture, &mut call, others);
     // What reads a filter seldom stays: such a state does not come again.
-    let stays = random.once_in(if may_read(&desk.numbers) { 25 } else { 5 });
-    let step = desk.step(tally, random, &call, stays);
+    let stays = random.once_in(if may_read(&fixture.numbers) { 25 } else { 5 });
+    let step = fixture.step(tally, random, &call, stays);
     run.counts.call(&call.numbers, &call.kinds, &step);
     stays && writes(&step)
 }
@@ -243,22 +243,22 @@ fn tried(mut mutation: impl FnMut() -> Option<&'static str>) -> Option<&'static 
     (0..9).find_map(|_| mutation())
 }
 
-fn mutate(random: &mut Random, desk: &mut Desk, call: &mut Call, others: &[Letter]) {
-    let [of_letter, of_ledger, of_lengths] = how_many(random);
-    for _ in 0..of_letter {
-        let kind = tried(|| mutate_letter(random, &mut call.letter, others));
+fn mutate(random: &mut Random, fixture: &mut Fixture, call: &mut Call, others: &[Delivery]) {
+    let [of_delivery, of_ledger, of_lengths] = how_many(random);
+    for _ in 0..of_delivery {
+        let kind = tried(|| mutate_delivery(random, &mut call.delivery, others));
         call.kinds.extend(kind);
     }
     for _ in 0..of_ledger {
         let kind = tried(|| {
             let (kind, mutation) = random.pick(&ledgers::ALL);
-            mutation(random, desk, &mut call.numbers).map(|()| kind)
+            mutation(random, fixture, &mut call.numbers).map(|()| kind)
         });
         call.kinds.extend(kind);
     }
-    let mut most = desk.most;
-    most[MESSAGE_AT] = call.letter.bytes.len();
-    most[HASH_AT] = call.letter.hash.len();
+    let mut most = fixture.most;
+    most[MESSAGE_AT] = call.delivery.bytes.len();
+    most[HASH_AT] = call.delivery.hash.len();
     call.lengths[MESSAGE_AT] = most[MESSAGE_AT];
     call.lengths[HASH_AT] = most[HASH_AT];
     for _ in 0..of_lengths {
@@ -267,18 +267,18 @@ fn mutate(random: &mut Random, desk: &mut Desk, call: &mut Call, others: &[Lette
     }
 }
 
-fn mutate_letter(
+fn mutate_delivery(
     random: &mut Random,
-    letter: &mut Letter,
-    others: &[Letter],
+    delivery: &mut Delivery,
+    others: &[Delivery],
 ) -> Option<&'static str> {
     let (kind, mutation) = match random.below(3) {
-        0 => random.pick(&letters::OF_FRAME),
-        _ => random.pick(&letters::OF_CONTENT),
+        0 => random.pick(&deliveries::OF_FRAME),
+        _ => random.pick(&deliveries::OF_CONTENT),
     };
-    let before = letter.clone();
-    mutation(random, letter, others)?;
-    (*letter != before).then_some(kind)
+    let before = delivery.clone();
+    mutation(random, delivery, others)?;
+    (*delivery != before).then_some(kind)
 }
 
 fn mutate_lengths(

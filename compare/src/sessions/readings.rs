@@ -1,8 +1,8 @@
 //! Comparisons of sessions that read planted filters: each end of a reading in each state in which
-//! a filter is read, with room for swaps and without, and at the limit of slips.
+//! a filter is read, with room for swaps and without, and at the limit of elements.
 
-use super::calls::Letter;
-use super::house::House;
+use super::calls::Delivery;
+use super::peer::Peer;
 use super::slices::messages_of;
 use crate::chains::{chain, is_long};
 use crate::filters::{self, Filter};
@@ -17,24 +17,24 @@ pub fn compare(tally: &mut Tally) {
     tally.sessions.sort = "hostile";
     planted(tally);
     too_many_peels(tally);
-    too_many_slips(tally);
+    too_many_elements(tally);
 }
 
-/// A house that waits for a filter, with so many swaps behind it.
-fn waiting(tally: &mut Tally, random: &mut Random, table: &[u8], swaps: u32) -> House {
+/// A peer that waits for a filter, with so many swaps behind it.
+fn waiting(tally: &mut Tally, random: &mut Random, table: &[u8], swaps: u32) -> Peer {
     let filter = (some_size(random, 100), some_salt(random));
-    let mut house = match random.below(2) {
-        0 => House::receiver(tally, random, table),
-        _ => House::sender(tally, random, table, filter).0,
+    let mut peer = match random.below(2) {
+        0 => Peer::receiver(tally, random, table),
+        _ => Peer::sender(tally, random, table, filter).0,
     };
-    house.numbers.swaps = swaps;
-    house
+    peer.numbers.swaps = swaps;
+    peer
 }
 
 /// Takes the messages of a filter in its state; one of them may be tried wrongly before.
-fn take(tally: &mut Tally, random: &mut Random, house: &mut House, letters: &[Letter]) {
-    for letter in letters {
-        house.take(tally, random, letter);
+fn take(tally: &mut Tally, random: &mut Random, peer: &mut Peer, deliveries: &[Delivery]) {
+    for delivery in deliveries {
+        peer.take(tally, random, delivery);
     }
 }
 
@@ -42,16 +42,16 @@ fn take_plan(tally: &mut Tally, random: &mut Random, plan: &Plan, swaps: u32) {
     if !plan.can_be_sent() {
         return;
     }
-    let letters = messages_of(random, &plan.received(), plan.salt);
-    let mut house = waiting(tally, random, &plan.table, swaps);
-    take(tally, random, &mut house, &letters);
+    let deliveries = messages_of(random, &plan.received(), plan.salt);
+    let mut peer = waiting(tally, random, &plan.table, swaps);
+    take(tally, random, &mut peer, &deliveries);
     // What was read is left behind; another filter comes over it.
-    if house.numbers.state == 3 {
+    if peer.numbers.state == 3 {
         let salt = some_salt(random);
         let size = some_size(random, 100);
         let other = Filter::of(&filters::ids(&plan.table), size, salt);
-        let letters = messages_of(random, &other, salt);
-        take(tally, random, &mut house, &letters);
+        let deliveries = messages_of(random, &other, salt);
+        take(tally, random, &mut peer, &deliveries);
     }
 }
 
@@ -122,8 +122,8 @@ fn too_many_peels(tally: &mut Tally) {
 }
 
 /// Tables near the limit, and filters that list as many as may be, and one more.
-fn too_many_slips(tally: &mut Tally) {
-    let mut random = tally.subject("too many slips read", 0x262);
+fn too_many_elements(tally: &mut Tally) {
+    let mut random = tally.subject("too many elements read", 0x262);
     let random = &mut random;
     for i in 0..60 {
         let theirs = random.between(1, 9) as usize;
@@ -144,9 +144,9 @@ fn too_many_slips(tally: &mut Tally) {
         ids.truncate(4096 + over - theirs);
         let table = table_of(random, &ids);
         let swaps = random.pick(&[0, 16]);
-        let mut house = waiting(tally, random, &table, swaps);
+        let mut peer = waiting(tally, random, &table, swaps);
         assert!(ids.len() + theirs == 4096 + over && model::place_count(size) == 3);
-        let letters = messages_of(random, &far, salt);
-        take(tally, random, &mut house, &letters);
+        let deliveries = messages_of(random, &far, salt);
+        take(tally, random, &mut peer, &deliveries);
     }
 }

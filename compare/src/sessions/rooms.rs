@@ -1,6 +1,6 @@
 //! Comparisons of steps that are lent too little, exactly enough, or more.
 
-use super::calls::{Letter, Twin};
+use super::calls::{Compared, Delivery};
 use super::ledgers::{some_parts, Good, ROWS};
 use super::memory::{Memory, DEMANDED_MARKS};
 use crate::random::Random;
@@ -24,18 +24,18 @@ fn rooms(random: &mut Random) -> Vec<Room> {
 }
 
 /// Lends so many of a slice; the hash goes with the message.
-fn shorten(memory: &mut Memory, letter: &mut Letter, slice: &str, len: usize) {
+fn shorten(memory: &mut Memory, delivery: &mut Delivery, slice: &str, len: usize) {
     match slice {
-        "hash" => letter.hash.truncate(len),
+        "hash" => delivery.hash.truncate(len),
         _ => memory.shorten(slice, len),
     }
 }
 
-fn some_good(random: &mut Random, row: (u32, u32)) -> (Good, Letter) {
+fn some_good(random: &mut Random, row: (u32, u32)) -> (Good, Delivery) {
     let parts = some_parts(random);
     let good = Good::new(random, row, parts);
-    let letter = good.message(random);
-    (good, letter)
+    let delivery = good.message(random);
+    (good, delivery)
 }
 
 /// A memory of exactly the room asked for.
@@ -51,20 +51,20 @@ fn one_short(tally: &mut Tally) {
     let random = &mut random;
     for (row, (slice, asked)) in each(random) {
         for i in 0..7 {
-            let (good, mut letter) = some_good(random, row);
+            let (good, mut delivery) = some_good(random, row);
             let mut memory = just(random, &good);
             let any = random.below(asked as u64) as usize;
             let len = [asked - 1, 0, asked - 1, any, asked, asked - 1, any][i];
-            shorten(&mut memory, &mut letter, slice, len);
+            shorten(&mut memory, &mut delivery, slice, len);
             if i == 6 {
                 let all = rooms(random);
                 let (other, most) = random.pick(&all);
                 if other != slice {
-                    shorten(&mut memory, &mut letter, other, most - 1);
+                    shorten(&mut memory, &mut delivery, other, most - 1);
                 }
             }
-            let mut twin = Twin::new(memory);
-            let (step, _) = twin.step(tally, random, good.numbers, &letter);
+            let mut compared = Compared::new(memory);
+            let (step, _) = compared.step(tally, random, good.numbers, &delivery);
             assert!((step.refusal == 2) == (len < asked), "{slice} of {len}");
         }
     }
@@ -84,7 +84,7 @@ fn short_and_broken(tally: &mut Tally) {
     let random = &mut random;
     for (row, (slice, asked)) in each(random) {
         for i in 0..8 {
-            let (mut good, mut letter) = some_good(random, row);
+            let (mut good, mut delivery) = some_good(random, row);
             let mut memory = just(random, &good);
             let mark = random.pick(&[0, good.ledger.table.len().max(1) - 1]);
             match i {
@@ -107,9 +107,9 @@ fn short_and_broken(tally: &mut Tally) {
             }
             let any = random.below(asked as u64) as usize;
             let len = random.pick(&[asked - 1, asked - 1, 0, any, 4.min(asked - 1)]);
-            shorten(&mut memory, &mut letter, slice, len);
-            let mut twin = Twin::new(memory);
-            let (step, _) = twin.step(tally, random, good.numbers, &letter);
+            shorten(&mut memory, &mut delivery, slice, len);
+            let mut compared = Compared::new(memory);
+            let (step, _) = compared.step(tally, random, good.numbers, &delivery);
             assert!(step.refusal == 1 || step.refusal == 2);
         }
     }
@@ -121,12 +121,12 @@ fn short_counts(tally: &mut Tally) {
     let random = &mut random;
     for len in [0, 3, 4, 10, 2518, 2519, 2520, 2521, 4095, 4096] {
         for place in [3, 9, 2518, 2519, 2520, 4094] {
-            let (good, letter) = some_good(random, (1, 0));
+            let (good, delivery) = some_good(random, (1, 0));
             let mut memory = just(random, &good);
             lent(&mut memory.counts)[place] = random.pick(&[-1, 1 << 32]);
             memory.shorten("counts", len);
-            let mut twin = Twin::new(memory);
-            let (step, _) = twin.step(tally, random, good.numbers, &letter);
+            let mut compared = Compared::new(memory);
+            let (step, _) = compared.step(tally, random, good.numbers, &delivery);
             let judged = len.min(2520);
             assert!((step.refusal == 1) == (place < judged), "{place} of {len}");
         }
@@ -142,19 +142,19 @@ fn nothing_lent(tally: &mut Tally) {
             let mut parts = some_parts(random);
             parts[0] = if i < 4 { 0 } else { parts[0] };
             let good = Good::new(random, row, parts);
-            let mut letter = good.message(random);
+            let mut delivery = good.message(random);
             let mut memory = good.memory(random);
             if i % 2 == 0 {
-                letter.bytes.clear();
+                delivery.bytes.clear();
             }
             if i == 3 {
-                letter.hash.clear();
+                delivery.hash.clear();
                 for (slice, _) in rooms(random) {
                     memory.shorten(slice, 0);
                 }
             }
-            let mut twin = Twin::new(memory);
-            twin.step(tally, random, good.numbers, &letter);
+            let mut compared = Compared::new(memory);
+            compared.step(tally, random, good.numbers, &delivery);
         }
     }
 }

@@ -1,6 +1,6 @@
-//! Messages that carry a filter, made up for a house whose table is known.
+//! Messages that carry a filter, made up for a peer whose table is known.
 
-use super::calls::Letter;
+use super::calls::Delivery;
 use super::craft::{one_of, some_of, Known, Trick};
 use crate::filters::{id_of, Filter};
 use crate::messages::layout::{Message, Slice};
@@ -11,7 +11,7 @@ use crate::random::Random;
 use crate::sets::{some_ids, some_salt, some_size};
 
 /// The messages of a filter, all of one width that holds its counters, the smallest or more.
-pub fn messages_of(random: &mut Random, filter: &Filter, salt: u32) -> Vec<Letter> {
+pub fn messages_of(random: &mut Random, filter: &Filter, salt: u32) -> Vec<Delivery> {
     let more = random.pick(&[0, 0, 0, 1, 7, 32]);
     let slices = writers::slices(&filter.ids, &filter.hashes, &filter.counts, salt);
     let wider = |message| match message {
@@ -23,7 +23,7 @@ pub fn messages_of(random: &mut Random, filter: &Filter, salt: u32) -> Vec<Lette
     };
     let messages = slices.into_iter().map(wider);
     messages
-        .map(|message| Letter::new(random, message.bytes()))
+        .map(|message| Delivery::new(random, message.bytes()))
         .collect()
 }
 
@@ -52,18 +52,18 @@ fn near_filter(random: &mut Random, known: &Known, size: u32, salt: u32) -> Filt
     Filter::of(&ids, size, salt)
 }
 
-fn first_of(random: &mut Random, filter: &Filter, salt: u32) -> Option<Letter> {
+fn first_of(random: &mut Random, filter: &Filter, salt: u32) -> Option<Delivery> {
     messages_of(random, filter, salt).into_iter().next()
 }
 
-fn near(random: &mut Random, known: &Known) -> Option<Letter> {
+fn near(random: &mut Random, known: &Known) -> Option<Delivery> {
     let (size, salt) = (size_of_any(random), some_salt(random));
     let filter = near_filter(random, known, size, salt);
     first_of(random, &filter, salt)
 }
 
 /// Keys at some of their places only, or at all although the table holds them.
-fn planted(random: &mut Random, known: &Known) -> Option<Letter> {
+fn planted(random: &mut Random, known: &Known) -> Option<Delivery> {
     let (size, salt) = (some_size(random, 90), some_salt(random));
     let mut filter = near_filter(random, known, size, salt);
     for _ in 0..random.between(1, 3) {
@@ -86,7 +86,7 @@ fn last_slice(
     random: &mut Random,
     known: &Known,
     (size, salt, width): (u32, u32, u32),
-) -> Option<Letter> {
+) -> Option<Delivery> {
     let n = size.checked_sub(2520).filter(|&n| n > 0)? as usize;
     if !(1..=32).contains(&width) {
         return None;
@@ -107,23 +107,23 @@ fn last_slice(
         slice.hashes = random.words(n);
         slice.counts = random.counters(n, width);
     }
-    Some(Letter::new(random, Message::Slice(slice).bytes()))
+    Some(Delivery::new(random, Message::Slice(slice).bytes()))
 }
 
-fn gap(random: &mut Random, known: &Known) -> Option<Letter> {
+fn gap(random: &mut Random, known: &Known) -> Option<Delivery> {
     let size = 2520 + random.between(1, 10) as u32;
     let (salt, width) = (some_salt(random), random.between(1, 32) as u32);
     last_slice(random, known, (size, salt, width))
 }
 
 /// The one that is awaited.
-fn rest(random: &mut Random, known: &Known) -> Option<Letter> {
+fn rest(random: &mut Random, known: &Known) -> Option<Delivery> {
     let now = known.numbers;
     last_slice(random, known, (now.size, now.salt, now.width))
 }
 
 /// One that differs from what is awaited in one number.
-fn other_rest(random: &mut Random, known: &Known) -> Option<Letter> {
+fn other_rest(random: &mut Random, known: &Known) -> Option<Delivery> {
     let now = known.numbers;
     let size = random
         .pick(&[now.size - 1, now.size + 1, 4096, 2521])
@@ -139,7 +139,7 @@ fn other_rest(random: &mut Random, known: &Known) -> Option<Letter> {
 }
 
 /// The first slice once more, or a filter of one slice.
-fn first_again(random: &mut Random, known: &Known) -> Option<Letter> {
+fn first_again(random: &mut Random, known: &Known) -> Option<Delivery> {
     let now = known.numbers;
     let small = some_size(random, 90);
     let size = random.pick(&[small, small, small, small, now.size.max(2521)]);
@@ -147,7 +147,7 @@ fn first_again(random: &mut Random, known: &Known) -> Option<Letter> {
     first_of(random, &filter, now.salt)
 }
 
-/// For a house that waits for a filter.
+/// For a peer that waits for a filter.
 pub const BEFORE: [Trick; 8] = [near, near, near, near, planted, planted, gap, rest];
 
 /// For one that has the first slice.

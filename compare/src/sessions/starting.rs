@@ -1,6 +1,6 @@
 //! Comparisons of the starts of sessions.
 
-use super::calls::Twin;
+use super::calls::Compared;
 use super::memory::{Memory, MARKS, OUT};
 use crate::random::Random;
 use crate::sets::{some_salt, some_size, some_table};
@@ -17,8 +17,8 @@ pub fn compare(tally: &mut Tally) {
 }
 
 fn both(tally: &mut Tally, memory: Memory, size: u32, salt: u32) {
-    Twin::new(memory.clone()).start_receiver(tally);
-    Twin::new(memory).start_sender(tally, size, salt);
+    Compared::new(memory.clone()).start_receiver(tally);
+    Compared::new(memory).start_sender(tally, size, salt);
 }
 
 /// Sizes and salts at and beyond their limits.

@@ -26,7 +26,7 @@ const GRID: [&[u32]; 8] = [
     &[],
 ];
 
-/// A house swaps at most so often.
+/// A peer swaps at most so often.
 const MOST_SWAPS: u32 = 16;
 
 pub fn may_come(numbers: &Numbers, kind: u32) -> bool {
@@ -120,10 +120,10 @@ pub fn step(numbers: Numbers, mut lent: Lent) -> (Step, Why) {
 /// Writes what is to be sent, or the bare hashes, from the start of the outgoing buffer.
 fn put(lent: &mut Lent, messages: &[Message], bare: &[Hash], next: Numbers) -> Step {
     let bytes: Vec<u8> = messages.iter().flat_map(Message::bytes).collect();
-    let slips: Vec<u8> = bare.concat();
-    assert!(bytes.is_empty() || slips.is_empty());
+    let hashes: Vec<u8> = bare.concat();
+    assert!(bytes.is_empty() || hashes.is_empty());
     lent.out[..bytes.len()].copy_from_slice(&bytes);
-    lent.out[..slips.len()].copy_from_slice(&slips);
+    lent.out[..hashes.len()].copy_from_slice(&hashes);
     Step {
         refusal: 0,
         sent: bytes.len(),

@@ -1,13 +1,13 @@
 //! Mutations of the numbers and of the ledger in the memory.
 
 use super::super::memory::{Numbers, DEMANDED_MARKS, FAR};
-use super::desk::{Desk, Part};
+use super::fixture::{Fixture, Part};
 use crate::filters::{id_of, HASH};
 use crate::random::Random;
 use std::ops::Range;
 
 /// Mutates the memory for one call, or the numbers; none where nothing is changed.
-pub type Mutation = fn(&mut Random, &mut Desk, &mut Numbers) -> Option<()>;
+pub type Mutation = fn(&mut Random, &mut Fixture, &mut Numbers) -> Option<()>;
 
 pub const ALL: [(&str, Mutation); 15] = [
     ("ledger: a number one off", number_near),
@@ -55,13 +55,13 @@ fn put_number(random: &mut Random, numbers: &mut Numbers, other: u32) -> Option<
     (std::mem::replace(number, other) != other).then_some(())
 }
 
-fn number_near(random: &mut Random, _: &mut Desk, numbers: &mut Numbers) -> Option<()> {
+fn number_near(random: &mut Random, _: &mut Fixture, numbers: &mut Numbers) -> Option<()> {
     let number = any_number(random, numbers);
     *number = number.wrapping_add(random.pick(&[1, u32::MAX]));
     Some(())
 }
 
-fn number_at_limit(random: &mut Random, _: &mut Desk, numbers: &mut Numbers) -> Option<()> {
+fn number_at_limit(random: &mut Random, _: &mut Fixture, numbers: &mut Numbers) -> Option<()> {
     let limit = random.pick(&[
         0,
         1,
@@ -89,7 +89,7 @@ fn number_at_limit(random: &mut Random, _: &mut Desk, numbers: &mut Numbers) -> 
     put_number(random, numbers, limit)
 }
 
-fn number_any(random: &mut Random, _: &mut Desk, numbers: &mut Numbers) -> Option<()> {
+fn number_any(random: &mut Random, _: &mut Fixture, numbers: &mut Numbers) -> Option<()> {
     let any = random.any_length() as u32;
     put_number(random, numbers, any)
 }
@@ -111,23 +111,23 @@ fn hash_at(i: usize) -> Range<usize> {
     HASH * i..HASH * (i + 1)
 }
 
-fn table_bytes(random: &mut Random, desk: &mut Desk, _: &mut Numbers) -> Option<()> {
+fn table_bytes(random: &mut Random, fixture: &mut Fixture, _: &mut Numbers) -> Option<()> {
     let mut changed = None;
     for _ in 0..random.pick(&[1, 1, 1, 3]) {
-        let at = HASH * one(random, desk.elements())? + in_hash(random);
-        let byte = other_byte(random, desk.kept().table[at]);
-        let now = desk.change(Part::Table, at..at + 1, |lent| lent.table[at] = byte);
+        let at = HASH * one(random, fixture.elements())? + in_hash(random);
+        let byte = other_byte(random, fixture.kept().table[at]);
+        let now = fixture.change(Part::Table, at..at + 1, |lent| lent.table[at] = byte);
         changed = now.or(changed);
     }
     changed
 }
 
 /// Two elements change their places, or one gets the other's ID or all of it.
-fn table_order(random: &mut Random, desk: &mut Desk, _: &mut Numbers) -> Option<()> {
-    let i = one(random, desk.elements().checked_sub(1)?)?;
+fn table_order(random: &mut Random, fixture: &mut Fixture, _: &mut Numbers) -> Option<()> {
+    let i = one(random, fixture.elements().checked_sub(1)?)?;
     let bytes = HASH * i..HASH * (i + 2);
     let how = random.below(3);
-    desk.change(Part::Table, bytes.clone(), |lent| {
+    fixture.change(Part::Table, bytes.clone(), |lent| {
         let two = &mut lent.table[bytes.clone()];
         match how {
             0 => two.rotate_left(HASH),
@@ -137,47 +137,47 @@ fn table_order(random: &mut Random, desk: &mut Desk, _: &mut Numbers) -> Option<
     })
 }
 
-fn put_mark(random: &mut Random, desk: &mut Desk, at: usize) -> Option<()> {
-    let now = desk.kept().marks[at];
+fn put_mark(random: &mut Random, fixture: &mut Fixture, at: usize) -> Option<()> {
+    let now = fixture.kept().marks[at];
     let any = other_byte(random, now);
     let mark = random.pick(&[any, now ^ 1, now ^ 2, now ^ 4, now ^ 8, now ^ 16, any & 15]);
-    desk.change(Part::Marks, at..at + 1, |lent| lent.marks[at] = mark)
+    fixture.change(Part::Marks, at..at + 1, |lent| lent.marks[at] = mark)
 }
 
-fn table_mark(random: &mut Random, desk: &mut Desk, _: &mut Numbers) -> Option<()> {
-    let i = one(random, desk.elements())?;
-    put_mark(random, desk, i)
+fn table_mark(random: &mut Random, fixture: &mut Fixture, _: &mut Numbers) -> Option<()> {
+    let i = one(random, fixture.elements())?;
+    put_mark(random, fixture, i)
 }
 
-fn demanded(desk: &Desk) -> usize {
-    desk.numbers.demanded as usize
+fn demanded(fixture: &Fixture) -> usize {
+    fixture.numbers.demanded as usize
 }
 
-fn record_mark(random: &mut Random, desk: &mut Desk, _: &mut Numbers) -> Option<()> {
-    let j = one(random, demanded(desk))?;
-    put_mark(random, desk, DEMANDED_MARKS + j)
+fn record_mark(random: &mut Random, fixture: &mut Fixture, _: &mut Numbers) -> Option<()> {
+    let j = one(random, demanded(fixture))?;
+    put_mark(random, fixture, DEMANDED_MARKS + j)
 }
 
-fn put_record_byte(random: &mut Random, desk: &mut Desk, at: usize) -> Option<()> {
-    let byte = other_byte(random, desk.kept().records[at]);
-    desk.change(Part::Records, at..at + 1, |lent| lent.records[at] = byte)
+fn put_record_byte(random: &mut Random, fixture: &mut Fixture, at: usize) -> Option<()> {
+    let byte = other_byte(random, fixture.kept().records[at]);
+    fixture.change(Part::Records, at..at + 1, |lent| lent.records[at] = byte)
 }
 
-fn records_bytes(random: &mut Random, desk: &mut Desk, _: &mut Numbers) -> Option<()> {
+fn records_bytes(random: &mut Random, fixture: &mut Fixture, _: &mut Numbers) -> Option<()> {
     let mut changed = None;
     for _ in 0..random.pick(&[1, 1, 1, 3]) {
-        let at = HASH * one(random, demanded(desk))? + in_hash(random);
-        changed = put_record_byte(random, desk, at).or(changed);
+        let at = HASH * one(random, demanded(fixture))? + in_hash(random);
+        changed = put_record_byte(random, fixture, at).or(changed);
     }
     changed
 }
 
 /// Likewise as in the table.
-fn records_order(random: &mut Random, desk: &mut Desk, _: &mut Numbers) -> Option<()> {
-    let j = one(random, demanded(desk).checked_sub(1)?)?;
+fn records_order(random: &mut Random, fixture: &mut Fixture, _: &mut Numbers) -> Option<()> {
+    let j = one(random, demanded(fixture).checked_sub(1)?)?;
     let bytes = HASH * j..HASH * (j + 2);
     let how = random.below(3);
-    desk.change(Part::Records, bytes.clone(), |lent| {
+    fixture.change(Part::Records, bytes.clone(), |lent| {
         let two = &mut lent.records[bytes.clone()];
         match how {
             0 => two.rotate_left(HASH),
@@ -188,45 +188,45 @@ fn records_order(random: &mut Random, desk: &mut Desk, _: &mut Numbers) -> Optio
 }
 
 /// A record gets the ID of an element of the table, or becomes that element.
-fn record_id(random: &mut Random, desk: &mut Desk, _: &mut Numbers) -> Option<()> {
-    let j = one(random, demanded(desk))?;
-    let i = one(random, desk.elements())?;
+fn record_id(random: &mut Random, fixture: &mut Fixture, _: &mut Numbers) -> Option<()> {
+    let j = one(random, demanded(fixture))?;
+    let i = one(random, fixture.elements())?;
     let len = random.pick(&[8, HASH]);
-    let bytes = desk.kept().table[hash_at(i)][..len].to_vec();
+    let bytes = fixture.kept().table[hash_at(i)][..len].to_vec();
     let at = HASH * j..HASH * j + len;
-    desk.change(Part::Records, at.clone(), |lent| {
+    fixture.change(Part::Records, at.clone(), |lent| {
         lent.records[at.clone()].copy_from_slice(&bytes);
     })
 }
 
-fn far(random: &mut Random, desk: &mut Desk, _: &mut Numbers) -> Option<()> {
+fn far(random: &mut Random, fixture: &mut Fixture, _: &mut Numbers) -> Option<()> {
     let at = FAR + in_hash(random);
-    put_record_byte(random, desk, at)
+    put_record_byte(random, fixture, at)
 }
 
 /// One gets near to what it was, or is its neighbour, or the ID of an element or of a record.
-fn inquired(random: &mut Random, desk: &mut Desk, _: &mut Numbers) -> Option<()> {
-    let n = desk.numbers.inquired as usize;
+fn inquired(random: &mut Random, fixture: &mut Fixture, _: &mut Numbers) -> Option<()> {
+    let n = fixture.numbers.inquired as usize;
     let i = one(random, n)?;
-    let now = desk.kept().inquired[i];
+    let now = fixture.kept().inquired[i];
     let id = match random.below(6) {
         0 => now.wrapping_add(random.pick(&[1, u64::MAX])),
         1 => now ^ 1 << random.below(64),
         2 => random.any_length(),
         3 => {
             let other = one(random, n)?;
-            desk.kept().inquired[other]
+            fixture.kept().inquired[other]
         }
         4 => {
-            let other = one(random, desk.elements())?;
-            id_of(&desk.kept().table[hash_at(other)])
+            let other = one(random, fixture.elements())?;
+            id_of(&fixture.kept().table[hash_at(other)])
         }
         _ => {
-            let other = one(random, demanded(desk))?;
-            id_of(&desk.kept().records[hash_at(other)])
+            let other = one(random, demanded(fixture))?;
+            id_of(&fixture.kept().records[hash_at(other)])
         }
     };
-    desk.change(Part::Inquired, i..i + 1, |lent| lent.inquired[i] = id)
+    fixture.change(Part::Inquired, i..i + 1, |lent| lent.inquired[i] = id)
 }
 
 /// A place in the columns, often at the limit of what is judged.
@@ -236,7 +236,7 @@ fn in_columns(random: &mut Random) -> usize {
 }
 
 /// They count in state 1; elsewhere nothing should come of it.
-fn count(random: &mut Random, desk: &mut Desk, numbers: &mut Numbers) -> Option<()> {
+fn count(random: &mut Random, fixture: &mut Fixture, numbers: &mut Numbers) -> Option<()> {
     if numbers.state != 1 && !random.once_in(8) {
         return None;
     }
@@ -245,39 +245,39 @@ fn count(random: &mut Random, desk: &mut Desk, numbers: &mut Numbers) -> Option<
     let bad = random.pick(&[-1, 1 << 32, i64::MIN, i64::MAX, any]);
     let good = random.pick(&[0, 1, 2, (1 << 32) - 1]);
     let count = random.pick(&[bad, good]);
-    desk.change(Part::Counts, at..at + 1, |lent| lent.counts[at] = count)
+    fixture.change(Part::Counts, at..at + 1, |lent| lent.counts[at] = count)
 }
 
-fn sum(random: &mut Random, desk: &mut Desk, numbers: &mut Numbers) -> Option<()> {
+fn sum(random: &mut Random, fixture: &mut Fixture, numbers: &mut Numbers) -> Option<()> {
     if numbers.state != 1 && !random.once_in(8) {
         return None;
     }
     let at = in_columns(random);
     let bit = random.below(64);
     match random.below(2) {
-        0 => desk.change(Part::Ids, at..at + 1, |lent| lent.ids[at] ^= 1 << bit),
-        _ => desk.change(Part::Hashes, at..at + 1, |lent| {
+        0 => fixture.change(Part::Ids, at..at + 1, |lent| lent.ids[at] ^= 1 << bit),
+        _ => fixture.change(Part::Hashes, at..at + 1, |lent| {
             lent.hashes[at] ^= 1 << (bit % 32);
         }),
     }
 }
 
 /// What stands behind the last mark, record or inquired ID is not looked at.
-fn behind(random: &mut Random, desk: &mut Desk, numbers: &mut Numbers) -> Option<()> {
+fn behind(random: &mut Random, fixture: &mut Fixture, numbers: &mut Numbers) -> Option<()> {
     let more = random.pick(&[0, 0, 1, 2]);
-    let of_table = desk.elements() + more;
-    let of_records = DEMANDED_MARKS + demanded(desk) + more;
+    let of_table = fixture.elements() + more;
+    let of_records = DEMANDED_MARKS + demanded(fixture) + more;
     let inquired = numbers.inquired as usize + more;
     match random.below(4) {
-        0 if of_table < DEMANDED_MARKS => put_mark(random, desk, of_table),
-        1 if of_records < 2 * DEMANDED_MARKS => put_mark(random, desk, of_records),
-        2 if demanded(desk) < DEMANDED_MARKS => {
-            let at = HASH * demanded(desk) + in_hash(random);
-            put_record_byte(random, desk, at)
+        0 if of_table < DEMANDED_MARKS => put_mark(random, fixture, of_table),
+        1 if of_records < 2 * DEMANDED_MARKS => put_mark(random, fixture, of_records),
+        2 if demanded(fixture) < DEMANDED_MARKS => {
+            let at = HASH * demanded(fixture) + in_hash(random);
+            put_record_byte(random, fixture, at)
         }
         3 if inquired < 4096 => {
             let id = random.any_length();
-            desk.change(Part::Inquired, inquired..inquired + 1, |lent| {
+            fixture.change(Part::Inquired, inquired..inquired + 1, |lent| {
                 lent.inquired[inquired] = id;
             })
         }

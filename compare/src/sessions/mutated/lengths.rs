@@ -1,6 +1,6 @@
 //! Mutations of the lengths lent: what is cut off stands behind and must not be touched.
 
-use super::desk::{Lengths, ASKED, HASH_AT, MESSAGE_AT, TABLE_AT};
+use super::fixture::{Lengths, ASKED, HASH_AT, MESSAGE_AT, TABLE_AT};
 use crate::filters::HASH;
 use crate::random::Random;
 

@@ -1,6 +1,6 @@
-//! Houses and pairs of them: what one is to send reaches the other, message by message.
+//! Peers and pairs of them: what one is to send reaches the other, message by message.
 
-use super::calls::{Letter, Twin};
+use super::calls::{Compared, Delivery};
 use super::ledger::{hashes_of, Hash};
 use super::memory::{Numbers, Step};
 use crate::filters::HASH;
@@ -11,18 +11,18 @@ use crate::Tally;
 use std::collections::{BTreeSet, VecDeque};
 
 /// One end: its memory, its numbers, and what is on the way to it.
-pub struct House {
-    pub twin: Twin,
+pub struct Peer {
+    pub compared: Compared,
     pub numbers: Numbers,
-    pub inbox: VecDeque<Letter>,
+    pub inbox: VecDeque<Delivery>,
 }
 
-impl House {
+impl Peer {
     /// One that waits for a filter.
-    pub fn receiver(tally: &mut Tally, random: &mut Random, table: &[u8]) -> House {
-        let mut twin = Twin::with_room(random, table);
-        let start = twin.start_receiver(tally);
-        House::started(twin, start)
+    pub fn receiver(tally: &mut Tally, random: &mut Random, table: &[u8]) -> Peer {
+        let mut compared = Compared::with_room(random, table);
+        let start = compared.start_receiver(tally);
+        Peer::started(compared, start)
     }
 
     /// One that sends a filter, and the messages of it.
@@ -31,34 +31,34 @@ impl House {
         random: &mut Random,
         table: &[u8],
         (size, salt): (u32, u32),
-    ) -> (House, Vec<Letter>) {
-        let mut twin = Twin::with_room(random, table);
-        let start = twin.start_sender(tally, size, salt);
-        let mut house = House::started(twin, start);
-        let letters = house.outgoing(random, &start);
-        (house, letters)
+    ) -> (Peer, Vec<Delivery>) {
+        let mut compared = Compared::with_room(random, table);
+        let start = compared.start_sender(tally, size, salt);
+        let mut peer = Peer::started(compared, start);
+        let deliveries = peer.outgoing(random, &start);
+        (peer, deliveries)
     }
 
-    fn started(twin: Twin, start: Step) -> House {
+    fn started(compared: Compared, start: Step) -> Peer {
         assert!(start.refusal == 0);
-        House {
-            twin,
+        Peer {
+            compared,
             numbers: start.next,
             inbox: VecDeque::new(),
         }
     }
 
     /// Takes a message for good.
-    pub fn take(&mut self, tally: &mut Tally, random: &mut Random, letter: &Letter) -> Step {
-        let (step, _) = self.twin.step(tally, random, self.numbers, letter);
+    pub fn take(&mut self, tally: &mut Tally, random: &mut Random, delivery: &Delivery) -> Step {
+        let (step, _) = self.compared.step(tally, random, self.numbers, delivery);
         self.numbers = step.next;
         step
     }
 
     /// What is to be sent after a step, one by one: its messages, or an ELEMENT for each bare hash.
-    pub fn outgoing(&mut self, random: &mut Random, step: &Step) -> Vec<Letter> {
-        let mut letters = Vec::new();
-        let bytes = self.twin.out(step.sent);
+    pub fn outgoing(&mut self, random: &mut Random, step: &Step) -> Vec<Delivery> {
+        let mut deliveries = Vec::new();
+        let bytes = self.compared.out(step.sent);
         let mut at = 0;
         while at < bytes.len() {
             let header = layout::at(&bytes, at);
@@ -66,18 +66,22 @@ impl House {
                 header.kind != layout::MALFORMED,
                 "what is sent is well laid"
             );
-            letters.push(Letter::new(random, bytes[at..header.next].to_vec()));
+            deliveries.push(Delivery::new(random, bytes[at..header.next].to_vec()));
             at = header.next;
         }
-        for hash in hashes_of(&self.twin.out(step.due * HASH)) {
-            letters.push(Letter::element(random, &hash));
+        for hash in hashes_of(&self.compared.out(step.due * HASH)) {
+            deliveries.push(Delivery::element(random, &hash));
         }
-        letters
+        deliveries
     }
 
     pub fn held(&mut self) -> BTreeSet<Hash> {
         let numbers = self.numbers;
-        self.twin.ledger(&numbers).held().into_values().collect()
+        self.compared
+            .ledger(&numbers)
+            .held()
+            .into_values()
+            .collect()
     }
 }
 
@@ -86,7 +90,7 @@ impl House {
 pub enum PairEnd {
     Finished,
     TooManySwaps,
-    TooManySlips,
+    TooManyElements,
 }
 
 /// Two tables: so many elements are in both, in the sender's alone, in the receiver's alone.
@@ -128,62 +132,62 @@ impl Tables {
 }
 
 pub struct Pair {
-    pub houses: [House; 2],
+    pub peers: [Peer; 2],
     union: BTreeSet<Hash>,
 }
 
 impl Pair {
-    /// The sender is house 0; its filter is on the way.
+    /// The sender is peer 0; its filter is on the way.
     pub fn new(
         tally: &mut Tally,
         random: &mut Random,
         tables: &Tables,
         filter: (u32, u32),
     ) -> Pair {
-        let (sender, letters) = House::sender(tally, random, &tables.sender, filter);
-        let mut receiver = House::receiver(tally, random, &tables.receiver);
-        receiver.inbox.extend(letters);
+        let (sender, deliveries) = Peer::sender(tally, random, &tables.sender, filter);
+        let mut receiver = Peer::receiver(tally, random, &tables.receiver);
+        receiver.inbox.extend(deliveries);
         Pair {
-            houses: [sender, receiver],
+            peers: [sender, receiver],
             union: tables.union(),
         }
     }
 
-    /// Runs to the end. Before each step something else may be tried on the house whose turn it is.
+    /// Runs to the end. Before each step something else may be tried on the peer whose turn it is.
     pub fn run(
         &mut self,
         tally: &mut Tally,
         random: &mut Random,
-        mut before: impl FnMut(&mut Tally, &mut Random, &mut House),
+        mut before: impl FnMut(&mut Tally, &mut Random, &mut Peer),
     ) -> PairEnd {
         loop {
-            let turn = match [0, 1].map(|i| self.houses[i].inbox.is_empty()) {
+            let turn = match [0, 1].map(|i| self.peers[i].inbox.is_empty()) {
                 [true, true] => break,
                 [false, true] => 0,
                 [true, false] => 1,
                 [false, false] => random.below(2) as usize,
             };
-            let house = &mut self.houses[turn];
-            before(tally, random, house);
-            let letter = house.inbox.pop_front().expect("not empty");
-            let step = house.take(tally, random, &letter);
-            let letters = house.outgoing(random, &step);
-            self.houses[1 - turn].inbox.extend(letters);
+            let peer = &mut self.peers[turn];
+            before(tally, random, peer);
+            let delivery = peer.inbox.pop_front().expect("not empty");
+            let step = peer.take(tally, random, &delivery);
+            let deliveries = peer.outgoing(random, &step);
+            self.peers[1 - turn].inbox.extend(deliveries);
             match step.refusal {
                 0 | 6 => {}
                 9 => return PairEnd::TooManySwaps,
-                10 if self.union.len() > 4096 => return PairEnd::TooManySlips,
+                10 if self.union.len() > 4096 => return PairEnd::TooManyElements,
                 refusal => panic!("an honest pair ends with refusal {refusal}"),
             }
         }
-        for house in &mut self.houses {
+        for peer in &mut self.peers {
             assert!(
-                house.numbers.state == 6,
+                peer.numbers.state == 6,
                 "an honest pair ends in {:?}",
-                house.numbers
+                peer.numbers
             );
             assert!(
-                house.held() == self.union,
+                peer.held() == self.union,
                 "an honest pair ends with the union"
             );
         }

@@ -1,11 +1,12 @@
-//! A session on which many calls are tried: its memory twice, and once more as it is to stay.
+//! The fixture of mutated calls: a session on which many are tried, its memory twice, and once more
+//! as it is to stay.
 //!
 //! After each call the answers are compared and both memories whole, with what is not lent of them.
 //! What a mutation changed is noted and put back from what is kept; as a refused step leaves the
 //! memory unchanged (but for 6, 9 and 10), no more is to be done then. When a session is dropped its
 //! memory must be what is kept.
 
-use super::super::calls::{same, told, Letter};
+use super::super::calls::{same, told, Delivery};
 use super::super::ledger::Ledger;
 use super::super::memory::{set, Lent, Memory, Numbers, Step, MARKS, OUT, PLACES, RECORDS};
 use super::super::step::{self, Why};
@@ -43,13 +44,13 @@ pub enum Part {
 /// One call: what is handed to the step.
 pub struct Call {
     pub numbers: Numbers,
-    pub letter: Letter,
+    pub delivery: Delivery,
     pub lengths: Lengths,
     /// How it was mutated.
     pub kinds: Vec<&'static str>,
 }
 
-pub struct Desk {
+pub struct Fixture {
     pub numbers: Numbers,
     /// What is lent where nothing is mutated, and the most that can be.
     pub lengths: Lengths,
@@ -132,9 +133,9 @@ pub fn writes(step: &Step) -> bool {
     matches!(step.refusal, 0 | 6 | 9 | 10)
 }
 
-impl Desk {
+impl Fixture {
     /// Behind the table goes room for two hashes, that may be lent too: the highest one, or anything.
-    pub fn new(random: &mut Random, mut memory: Memory, numbers: Numbers) -> Desk {
+    pub fn new(random: &mut Random, mut memory: Memory, numbers: Numbers) -> Fixture {
         let mut table = memory.lent().table.to_vec();
         let len = table.len();
         match random.below(2) {
@@ -147,7 +148,7 @@ impl Desk {
         let most = lengths_of(&memory.lent());
         let mut lengths = if random.once_in(4) { most } else { ASKED };
         lengths[TABLE_AT] = len;
-        Desk {
+        Fixture {
             numbers,
             lengths,
             most,
@@ -192,9 +193,9 @@ impl Desk {
         (!same).then_some(())
     }
 
-    fn lay(&mut self, random: &mut Random, letter: &Letter) {
-        set(random, &mut self.model.message, &letter.bytes);
-        set(random, &mut self.model.hash, &letter.hash);
+    fn lay(&mut self, random: &mut Random, delivery: &Delivery) {
+        set(random, &mut self.model.message, &delivery.bytes);
+        set(random, &mut self.model.hash, &delivery.hash);
         self.library.message.clone_from(&self.model.message);
         self.library.hash.clone_from(&self.model.hash);
     }
@@ -207,7 +208,7 @@ impl Desk {
         call: &Call,
         stays: bool,
     ) -> Step {
-        self.lay(random, &call.letter);
+        self.lay(random, &call.delivery);
         let (step, _) = self.compare(tally, call);
         match writes(&step) {
             true if stays => {
@@ -237,7 +238,7 @@ impl Desk {
         tally.sessions.step(numbers, &model, why);
         let differences = self.model.differences(&self.library);
         let words = || {
-            let message = told(&call.letter.bytes);
+            let message = told(&call.delivery.bytes);
             format!("step {numbers:?} ({why}) mutated {kinds:?}, lent {lengths:?}, of {message}")
         };
         same(tally, words, model, library, differences);
