@@ -1,4 +1,4 @@
-/* What the C tests share: an expectation, and tables of hashes that begin with a number. */
+/* What the C tests share: expectations, and tables of hashes that begin with a number. */
 #ifndef TESTS_EXPECT_H
 #define TESTS_EXPECT_H
 
@@ -33,6 +33,19 @@ static inline size_t put_table(uint8_t *table, uint64_t from, size_t number)
     for (size_t i = 0; i < number; i++)
         put_hash(table + i * TANDAWIRE_HASH_BYTES, from + i);
     return number * TANDAWIRE_HASH_BYTES;
+}
+
+/* That a list holds so many numbers from one on, each once in whatever order, and zeros behind them up to its size. */
+static inline void expect_listed(const char *what, const uint64_t *list, size_t size, uint64_t from, size_t number)
+{
+    for (uint64_t id = from; id < from + number; id++) {
+        size_t times = 0;
+        for (size_t i = 0; i < number; i++)
+            times += list[i] == id;
+        expect(what, times, 1);
+    }
+    for (size_t i = number; i < size; i++)
+        expect(what, (size_t)list[i], 0);
 }
 
 #endif

@@ -9,6 +9,8 @@ static uint64_t ids[ROOM], ours[ROOM], theirs[ROOM];
 static uint32_t hashes[ROOM];
 static int64_t counts[ROOM];
 
+/* ---- Filters ---- */
+
 static uint32_t build_filter(size_t bytes, size_t room, uint32_t size, uint32_t salt)
 {
     return tandawire_build(table, bytes, ids, room, hashes, room, counts, room, size, salt);
@@ -18,6 +20,53 @@ static tandawire_reading read_filter(size_t bytes, size_t room, uint32_t size, u
 {
     return tandawire_read(table, bytes, ids, room, hashes, room, counts, room, ours, room, theirs, room, size, salt);
 }
+
+static void expect_builds(void)
+{
+    const size_t all = (size_t)TANDAWIRE_MOST_ELEMENTS * TANDAWIRE_HASH_BYTES;
+    expect("build, most elements", build_filter(all, ROOM, TANDAWIRE_MOST_SIZE, 0), TANDAWIRE_REFUSED_NONE);
+    expect("build, one element more", build_filter(all + TANDAWIRE_HASH_BYTES, ROOM, TANDAWIRE_MOST_SIZE, 0), TANDAWIRE_REFUSED_FORM);
+    expect("build, a broken hash", build_filter(TANDAWIRE_HASH_BYTES + 1, ROOM, TANDAWIRE_MOST_SIZE, 0), TANDAWIRE_REFUSED_FORM);
+    expect("build, least size", build_filter(all, ROOM, TANDAWIRE_LEAST_SIZE, 0), TANDAWIRE_REFUSED_NONE);
+    expect("build, below it", build_filter(all, ROOM, TANDAWIRE_LEAST_SIZE - 1, 0), TANDAWIRE_REFUSED_RANGE);
+    expect("build, above most size", build_filter(all, ROOM, TANDAWIRE_MOST_SIZE + 1, 0), TANDAWIRE_REFUSED_RANGE);
+    expect("build, most salt", build_filter(all, ROOM, TANDAWIRE_LEAST_SIZE, TANDAWIRE_MOST_SALT), TANDAWIRE_REFUSED_NONE);
+    expect("build, above it", build_filter(all, ROOM, TANDAWIRE_LEAST_SIZE, TANDAWIRE_MOST_SALT + 1), TANDAWIRE_REFUSED_RANGE);
+    expect("build, short columns", build_filter(all, 100, 101, 0), TANDAWIRE_REFUSED_ROOM);
+    expect("build, null for nothing", tandawire_build(NULL, 0, NULL, 0, NULL, 0, NULL, 0, TANDAWIRE_LEAST_SIZE, 0), TANDAWIRE_REFUSED_ROOM);
+}
+
+static void expect_readings(void)
+{
+    const size_t hash_bytes = TANDAWIRE_HASH_BYTES;
+
+    /* Ours are the IDs 0 to 3, the far end's 2 to 8: each list has its own, and another number of them. */
+    expect("build, theirs", tandawire_build(table + 2 * hash_bytes, 7 * hash_bytes, ids, ROOM, hashes, ROOM, counts, ROOM, 101, 9), TANDAWIRE_REFUSED_NONE);
+    tandawire_reading r = read_filter(4 * hash_bytes, ROOM, 101, 9);
+    expect("read, refusal", r.refusal, TANDAWIRE_REFUSED_NONE);
+    expect("read, complete", r.complete, 1);
+    expect("read, ours", r.ours, 2);
+    expect("read, theirs", r.theirs, 5);
+    expect_listed("read, the list ours", ours, 101, 0, 2);
+    expect_listed("read, the list theirs", theirs, 101, 4, 5);
+
+    /* A filter that takes one of them as theirs and not ours contradicts the table. */
+    expect("build, one", build_filter(hash_bytes, ROOM, 101, 0), TANDAWIRE_REFUSED_NONE);
+    for (size_t i = 0; i < 101; i++) {
+        counts[i] *= 2;
+        ids[i] = 0;
+        hashes[i] = 0;
+    }
+    r = read_filter(hash_bytes, ROOM, 101, 0);
+    expect("read, refusal of a false one", r.refusal, TANDAWIRE_REFUSED_FALSE);
+    expect("read, nothing listed then", r.ours + r.theirs + r.complete, 0);
+    counts[0] = -1;
+    expect("read, a count below 0", read_filter(0, ROOM, 101, 0).refusal, TANDAWIRE_REFUSED_FORM);
+    counts[0] = 0;
+    expect("read, short lists", tandawire_read(table, 0, ids, 101, hashes, 101, counts, 101, ours, 100, theirs, 101, 101, 0).refusal, TANDAWIRE_REFUSED_ROOM);
+}
+
+/* ---- Estimators ---- */
 
 static uint64_t second_ids[ROOM];
 static uint32_t second_hashes[ROOM];
@@ -76,6 +125,8 @@ static void expect_estimators(void)
     expect("estimate, a count below 0", e.refusal, TANDAWIRE_REFUSED_FORM);
     expect("estimate, none then", (size_t)e.estimate, 0);
 }
+
+/* ---- Messages ---- */
 
 /* A buffer for the messages of a filter, and one byte more. */
 static uint8_t buffer[TANDAWIRE_MOST_FILTER_BYTES + 1];
@@ -250,46 +301,10 @@ static void expect_session(void)
 
 int main(void)
 {
-    const size_t all = (size_t)TANDAWIRE_MOST_ELEMENTS * TANDAWIRE_HASH_BYTES;
     test = "header";
     put_table(table, 0, TANDAWIRE_MOST_ELEMENTS + 1);
-
-    expect("build, most elements", build_filter(all, ROOM, TANDAWIRE_MOST_SIZE, 0), TANDAWIRE_REFUSED_NONE);
-    expect("build, one element more", build_filter(all + TANDAWIRE_HASH_BYTES, ROOM, TANDAWIRE_MOST_SIZE, 0), TANDAWIRE_REFUSED_FORM);
-    expect("build, a broken hash", build_filter(TANDAWIRE_HASH_BYTES + 1, ROOM, TANDAWIRE_MOST_SIZE, 0), TANDAWIRE_REFUSED_FORM);
-    expect("build, least size", build_filter(all, ROOM, TANDAWIRE_LEAST_SIZE, 0), TANDAWIRE_REFUSED_NONE);
-    expect("build, below it", build_filter(all, ROOM, TANDAWIRE_LEAST_SIZE - 1, 0), TANDAWIRE_REFUSED_RANGE);
-    expect("build, above most size", build_filter(all, ROOM, TANDAWIRE_MOST_SIZE + 1, 0), TANDAWIRE_REFUSED_RANGE);
-    expect("build, most salt", build_filter(all, ROOM, TANDAWIRE_LEAST_SIZE, TANDAWIRE_MOST_SALT), TANDAWIRE_REFUSED_NONE);
-    expect("build, above it", build_filter(all, ROOM, TANDAWIRE_LEAST_SIZE, TANDAWIRE_MOST_SALT + 1), TANDAWIRE_REFUSED_RANGE);
-    expect("build, short columns", build_filter(all, 100, 101, 0), TANDAWIRE_REFUSED_ROOM);
-    expect("build, null for nothing", tandawire_build(NULL, 0, NULL, 0, NULL, 0, NULL, 0, TANDAWIRE_LEAST_SIZE, 0), TANDAWIRE_REFUSED_ROOM);
-
-    /* Two elements of ours against an empty filter: complete, both listed, in the struct's order of fields. */
-    memset(ids, 0, sizeof ids);
-    memset(hashes, 0, sizeof hashes);
-    memset(counts, 0, sizeof counts);
-    tandawire_reading r = read_filter(2 * TANDAWIRE_HASH_BYTES, ROOM, 101, 0);
-    expect("read, refusal", r.refusal, TANDAWIRE_REFUSED_NONE);
-    expect("read, complete", r.complete, 1);
-    expect("read, ours", r.ours, 2);
-    expect("read, theirs", r.theirs, 0);
-
-    /* A filter that takes one of them as theirs and not ours contradicts the table. */
-    expect("build, one", build_filter(TANDAWIRE_HASH_BYTES, ROOM, 101, 0), TANDAWIRE_REFUSED_NONE);
-    for (size_t i = 0; i < 101; i++) {
-        counts[i] *= 2;
-        ids[i] = 0;
-        hashes[i] = 0;
-    }
-    r = read_filter(TANDAWIRE_HASH_BYTES, ROOM, 101, 0);
-    expect("read, refusal of a false one", r.refusal, TANDAWIRE_REFUSED_FALSE);
-    expect("read, nothing listed then", r.ours + r.theirs + r.complete, 0);
-    counts[0] = -1;
-    expect("read, a count below 0", read_filter(0, ROOM, 101, 0).refusal, TANDAWIRE_REFUSED_FORM);
-    counts[0] = 0;
-    expect("read, short lists", tandawire_read(table, 0, ids, 101, hashes, 101, counts, 101, ours, 100, theirs, 101, 101, 0).refusal, TANDAWIRE_REFUSED_ROOM);
-
+    expect_builds();
+    expect_readings();
     expect_estimators();
     expect_messages();
     expect_session();

@@ -128,6 +128,8 @@ static void expect_filters(void)
     expect("read, complete", r.complete, 1);
     expect("read, ours", r.ours, 10);
     expect("read, theirs", r.theirs, 10);
+    expect_listed("read, the list ours", lists.ours, 4001, 1, 10);
+    expect_listed("read, the list theirs", lists.theirs, 4001, 21, 10);
     expect("used up", (size_t)tandawire_filter_is_whole(&theirs), 0);
 }
 

@@ -109,6 +109,8 @@ static size_t expect_opening(void)
     expect("opened, done", b.next.done, 0);
     expect("opened, sent", b.sent, 8 + 4 * 8 + 4 + 3 * 64);
     expect("opened, the first ID", (size_t)bert.inquired[0], 1);
+    expect_listed("opened, the list ours", bert.ours, 101, 7, 3);
+    expect_listed("opened, the list theirs", bert.theirs, 101, 1, 4);
     expect("opened, marks", bert.marks[2], TANDAWIRE_MARK_OFFERED);
     memcpy(line, bert.out, b.sent);
     return b.sent;
