@@ -12,7 +12,7 @@ use lib.Seq.{drop-cons}
 use borrow.Author.Tests.{le-ltb, ltb-true, ltb-false, leb-true, leb-false, eqb-true, eqb-false}
 use Rattle.bucket.specs.Crc.{crcTables, nextBy}
 use Rattle.bucket.specs.Lists.{pad, elem, Distinct}
-use Rattle.bucket.specs.Places.{draw, crcNext, candidate, candidates, keep, firsts, placesBy, places}
+use Rattle.bucket.specs.Places.{draw, crcNext, candidate, candidates, keep, firsts, placesBy, places, placeCount}
 use Rattle.bucket.proofs.ListLaws.{
   or-true-r,
   eqb-self,
@@ -271,3 +271,17 @@ module _ (next : ℕ → ℕ → ℕ) (k size d n : ℕ) (r : List ℕ) (e : r �
   pub place-none : min k size ≤ j → false ≡ elem a (placesBy next k size d)
   place-none h =
       sym (ap (elem a) (drop-of-length-le (placesBy next k size d) {i = j} (omega (arith, places-length next k size d))) ∙ elem-nil a) ∙ passed
+
+-- ---- how many an element has
+
+pub place-count-some : (size : ℕ) → 1 ≤ placeCount size
+unfolding placeCount
+place-count-some size = omega arith
+
+pub place-count-most : (size : ℕ) → placeCount size ≤ 4
+unfolding placeCount
+place-count-most size = omega arith
+
+pub place-count-37 : placeCount 37 ≡ 3
+unfolding placeCount
+place-count-37 = refl

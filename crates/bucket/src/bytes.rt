@@ -1,6 +1,6 @@
 // Numbers as bytes, most significant first.
 ghost use mathlib.Core.Path.{_≡_};
-ghost use Prim.Native.Nat.{_+_, _≤_, min};
+ghost use Prim.Native.Nat.{_+_, _≤_, _<_, min};
 ghost use lib.ListN.{length};
 ghost use Rattle.bucket.specs.Digits.{joined, groups, putInto};
 ghost use Rattle.bucket.specs.Lists.{over, part};
@@ -64,8 +64,8 @@ fn put_groups(s: &mut [u8], at: usize, k: usize, x: u64)
 }
 
 // A byte as a number: a function, so that callers owe only the index.
-pub(crate) fn wide(x: u8) -> u64
-    ensures { λ r. ⌜ r ≡ x ⌝ }
+pub fn wide(x: u8) -> u64
+    ensures { λ r. ⌜ (r ≡ x) × (r < 256) ⌝ }
 {
     x as u64
 }

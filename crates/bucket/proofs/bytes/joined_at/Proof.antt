@@ -53,7 +53,7 @@ loop-again c =
     let a = c .before .before .before .before .before .args in
     let at = c .before .before .before .loop in (
       omega arith,
-      ap₂ (λ (v b : ℕ). v * 256 + b) (at .inv .1) (c .wide .ensures)
+      ap₂ (λ (v b : ℕ). v * 256 + b) (at .inv .1) (c .wide .ensures .0)
           ∙ sym (number-suc (a .at) (a .s .now) (at .j) (omega arith) (c .before .shared-slice-known2 .given (a .at + at .j) .fits)),
     )
 

@@ -73,7 +73,7 @@ returns : tie.Need-returns
 returns c =
     let s = c .before .before .before .before in
     let a = s .args in
-    rw (c .before .wide .ensures, c .two-to .ensures)
+    rw (c .before .wide .ensures .0, c .two-to .ensures)
     (spare-read (a .w) (a .n) (a .at) (a .s .now) (takes-room (a .w) (a .n) (a .at) (length (a .s .now)) (s .pre .0)) (s .pre .1)
     (c .before .before .shared-slice-known2 .given (a .at + (a .w * a .n + 7) / 8 - 1) .fits))
 
