@@ -23,6 +23,7 @@ use Rattle.bucket.specs.Bucket.{Bucket, _⊕_}
 use Rattle.bucket.specs.Columns.{Columns, view}
 use Rattle.bucket.specs.Lists.{elem, Distinct}
 use Rattle.bucket.specs.Places.{placeCount}
+use Rattle.bucket.proofs.PlaceLaws.{place-count-some}
 use Rattle.filter.specs.declared.answers.Refusal.the-variants.{None}
 use Rattle.filter.specs.declared.answers.Verdict.{Verdict}
 use Rattle.filter.specs.declared.answers.Verdict.the-variants.{Complete, Stuck, False}
@@ -38,7 +39,7 @@ use Rattle.filter.proofs.SumLaws.{filter-append, filter-reverse}
 use Rattle.filter.proofs.SoundLaws.{sound, reading-distinct}
 use Rattle.filter.proofs.LeftLaws.{Fair}
 use Rattle.filter.proofs.ExactLaws.{Placed, exactly, never-false}
-use Rattle.filter.proofs.IdLaws.{ids-distinct, first-eight-below, ids-below, fair, some-places, placed}
+use Rattle.filter.proofs.IdLaws.{ids-distinct, first-eight-below, ids-below, fair, placed}
 use Rattle.filter.proofs.GrantedLaws.{granted-table, granted-size, granted-read, complete-granted, listed-back}
 
 -- the IDs that a call lists: the first part of each list, up to the length that it answers
@@ -137,7 +138,7 @@ reads-exactly derive bound size salt t c o th granted s ds small made clear =
     table = ids-distinct derive t (granted-table derive size salt t c o th granted)
 
     rule-placed : Placed R
-    rule-placed = let large = granted-size derive size salt t c o th granted in placed (placeCount size) size salt (some-places size) (omega arith)
+    rule-placed = let large = granted-size derive size salt t c o th granted in placed (placeCount size) size salt (place-count-some size) (omega arith)
 
     rule-fair : Fair R (differing (idsOf derive t) s)
     rule-fair = fair (placeCount size) size salt (idsOf derive t) s (ids-below derive bound t) (λ a m. small a (mem-elem m)) clear

@@ -14,7 +14,7 @@ use lib.ListN.{length, getD}
 use lib.Pow.{pow-pos}
 use Rattle.bucket.specs.Crc.{crcOf, tabulated}
 use Rattle.bucket.specs.Lists.{Distinct}
-use Rattle.bucket.specs.Places.{crcNext, placesBy, placeCount}
+use Rattle.bucket.specs.Places.{crcNext, placesBy}
 use Rattle.bucket.specs.Salt.{salted, unsalted}
 use Rattle.bucket.proofs.ListLaws.{elem-at}
 use Rattle.bucket.proofs.PlaceLaws.{places-below, places-length}
@@ -79,10 +79,6 @@ fair k size salt t s small-t small-s clear = record { codes = codes; clear = cle
 
     codes : (x : Item) → List·Memᴰ x (differing t s) → unsalted salt (salted salt (idOf x)) ≡ idOf x
     codes x m = unsalted-salted salt (idOf x) (below x (differing-from t s x m))
-
-pub some-places : (size : ℕ) → 1 ≤ placeCount size
-unfolding placeCount
-some-places size = omega arith
 
 pub placed : (k size salt : ℕ) → 1 ≤ k → 1 ≤ size → Placed (rule k size salt)
 placed k size salt some h = record {

@@ -13,6 +13,7 @@ use Rattle.bucket.specs.Bucket.{Bucket, _⊕_, neg, 𝟎}
 use Rattle.bucket.specs.Columns.{Columns, columns, view}
 use Rattle.bucket.specs.Places.{placeCount}
 use Rattle.bucket.proofs.BucketLaws.{⊕-idl, ⊕-comm}
+use Rattle.bucket.proofs.PlaceLaws.{place-count-some, place-count-most}
 use Rattle.filter.specs.Filter.{ours, Rule, touches, cell, put, sumAt, filterOf, difference}
 use Rattle.filter.specs.Calls.{inRange, areCounts, filled}
 use Rattle.filter.specs.Steps.{Wide, Small, Sound}
@@ -23,11 +24,11 @@ use Rattle.filter.proofs.NegatedLaws.{abs-neg}
 use Rattle.filter.proofs.SpreadLaws.{abs-sum}
 
 pub range-sound : (size salt : ℕ) → inRange size salt ≡ true → Sound size (placeCount size) salt
-unfolding inRange placeCount
+unfolding inRange
 range-sound size salt h =
     let a = and-eq-true-iff (leb 37 size) (leb size 4096 && ltb salt 64) .0 h in
     let b = and-eq-true-iff (leb size 4096) (ltb salt 64) .0 (a .1) in
-    record { least = leb-true _ _ (a .0); most = leb-true _ _ (b .0); some = omega arith; few = omega arith; salt-in = ltb-true _ _ (b .1) }
+    record { least = leb-true _ _ (a .0); most = leb-true _ _ (b .0); some = place-count-some size; few = place-count-most size; salt-in = ltb-true _ _ (b .1) }
 
 -- counts are those of the buckets
 pub small-filled : (n m : ℕ) (f : ℕ → Bucket) (c : Columns) → Wide n c → ((i : ℕ) → i < n → natAbs (f i .count) < m) → Small n m (filled n f c)
