@@ -1,13 +1,14 @@
 // A table: bytes of 64-byte hashes, ascending, no two sharing an ID. Its form, and searches in it.
 ghost use mathlib.Core.Path.{_≡_};
 ghost use mathlib.Core.Bool.{_&&_};
-ghost use Prim.Native.Nat.{_+_, _≤_, _<_};
+ghost use Prim.Native.Nat.{_+_, _≤_};
 ghost use lib.Dec.{ltb, leb};
 ghost use lib.ListN.{length, getD};
 ghost use Rattle.bucket.specs.Digits.{joined};
 ghost use Rattle.bucket.specs.Lists.{part};
 ghost use Rattle.filter.specs.Lists.{ascending};
 ghost use Rattle.filter.specs.Table.{hashesOf, firstEight, idsOf, isTable, position, holds};
+use bucket::bytes::wide;
 
 // How many whole hashes the bytes hold.
 pub fn count(table: &[u8]) -> usize
@@ -139,12 +140,6 @@ fn eight_bytes(s: &[u8], at: usize) -> u64
     let f = e * 256 + wide(s[at + 5]);
     let g = f * 256 + wide(s[at + 6]);
     g * 256 + wide(s[at + 7])
-}
-
-fn wide(x: u8) -> u64
-    ensures { λ r. ⌜ (r ≡ x) × (r < 256) ⌝ }
-{
-    x as u64
 }
 
 // Whether the hash at position i of some bytes is below the one at position j of others.
