@@ -19,14 +19,14 @@ use Rattle.filter.specs.declared.answers.Verdict.{Verdict}
 use Rattle.filter.specs.declared.answers.Verdict.the-variants.{Complete, Stuck, False}
 use Rattle.filter.specs.Answers.{answer}
 use Rattle.filter.specs.Filter.{Item, Rule, rule, oursOf, theirsOf}
-use Rattle.filter.specs.Peeling.{Outcome, allZero, fits, reading, verdictBy, verdict}
+use Rattle.filter.specs.Peeling.{Outcome, allZero, agrees, reading, verdictBy, verdict}
 use Rattle.filter.specs.Calls.{inRange, areCounts, hasRoom, filled, listedInto, answered, readAs, readWith, readRefusal, outcomeOf, readCall}
 use Rattle.filter.specs.Table.{firstEight, idsOf, isTable}
 use Rattle.filter.specs.Steps.{Wide, every, Ready, Listed, Peels}
 use Rattle.filter.proofs.FilledLaws.{view-filled-in, filled-filled, filled-cong, wide-filled, wide-of}
 use Rattle.filter.proofs.PeelLaws.{Alike, reading-cong, all-zero-cong}
 use Rattle.filter.proofs.SideLaws.{ours-few, theirs-few}
-use Rattle.filter.proofs.JudgeLaws.{every-reverse, fits-sides}
+use Rattle.filter.proofs.JudgeLaws.{every-reverse, agrees-sides}
 
 -- ---- lists
 
@@ -199,21 +199,21 @@ module _ (size : ℕ) {q : Outcome} {c₀ : Columns} (o₀ t₀ : List ℕ) {fin
         ap (λ (d : Columns). allZero (view d) size) (p .rest-is e)
         ∙ all-zero-cong (view (filled size (q .rest) c₀)) (q .rest) size (λ i h. view-filled-in size (q .rest) c₀ i w h)
 
-    pub fits-are : (ids : List ℕ) → every true ids (take a o) && every false ids (take b t) ≡ fits ids (q .listed)
-    fits-are ids =
+    pub agrees-are : (ids : List ℕ) → every true ids (take a o) && every false ids (take b t) ≡ agrees ids (q .listed)
+    agrees-are ids =
         ap₂ (λ (x y : List ℕ). every true ids x && every false ids y) ours-taken theirs-taken
         ∙ ap₂ _&&_ (every-reverse true ids (oursOf (q .listed))) (every-reverse false ids (theirsOf (q .listed)))
-        ∙ fits-sides ids (q .listed)
+        ∙ agrees-sides ids (q .listed)
 
   -- the code's verdict is the definition's
   pub verdict-is : (ids : List ℕ) → verdictBy fine (allZero (view c) size) (every true ids (take a o) && every false ids (take b t))
-      ≡ verdictBy (q .fine) (allZero (q .rest) size) (fits ids (q .listed))
+      ≡ verdictBy (q .fine) (allZero (q .rest) size) (agrees ids (q .listed))
   verdict-is ids = go fine refl
     where
       go : (f : Bool) → fine ≡ f → verdictBy f (allZero (view c) size) (every true ids (take a o) && every false ids (take b t))
-          ≡ verdictBy (q .fine) (allZero (q .rest) size) (fits ids (q .listed))
-      go true e = ap₂ (verdictBy true) (zeros-are e) (fits-are e ids) ∙ ap (λ (f : Bool). verdictBy f (allZero (q .rest) size) (fits ids (q .listed))) (sym e ∙ p .fine-is)
-      go false e = ap (λ (f : Bool). verdictBy f (allZero (q .rest) size) (fits ids (q .listed))) (sym e ∙ p .fine-is)
+          ≡ verdictBy (q .fine) (allZero (q .rest) size) (agrees ids (q .listed))
+      go true e = ap₂ (verdictBy true) (zeros-are e) (agrees-are e ids) ∙ ap (λ (f : Bool). verdictBy f (allZero (q .rest) size) (agrees ids (q .listed))) (sym e ∙ p .fine-is)
+      go false e = ap (λ (f : Bool). verdictBy f (allZero (q .rest) size) (agrees ids (q .listed))) (sym e ∙ p .fine-is)
 
   -- the answer of a reading that is not false, and what it leaves
   module _ (whole : ℕ) (e : fine ≡ true) where
@@ -223,7 +223,7 @@ module _ (size : ℕ) {q : Outcome} {c₀ : Columns} (o₀ t₀ : List ℕ) {fin
 
   module _ (ids : List ℕ) {v : Verdict}
       (e : v ≡ verdictBy fine (allZero (view c) size) (every true ids (take a o) && every false ids (take b t))) where
-    judged : (u : Verdict) → v ≡ u → u ≡ verdictBy (q .fine) (allZero (q .rest) size) (fits ids (q .listed))
+    judged : (u : Verdict) → v ≡ u → u ≡ verdictBy (q .fine) (allZero (q .rest) size) (agrees ids (q .listed))
     judged u h = sym h ∙ e ∙ verdict-is ids
 
     in-order : (u : Verdict) → v ≡ u → (u ≡ False → false ≡ true) → fine ≡ true
@@ -234,18 +234,18 @@ module _ (size : ℕ) {q : Outcome} {c₀ : Columns} (o₀ t₀ : List ℕ) {fin
         go false k = ne (sym h ∙ e ∙ ap (λ (f : Bool). verdictBy f (allZero (view c) size) (every true ids (take a o) && every false ids (take b t))) k)
 
     pub read-complete : v ≡ Complete → answered (answer 0 1 a b) c o t
-        ≡ readWith (verdictBy (q .fine) (allZero (q .rest) size) (fits ids (q .listed))) size q c₀ o₀ t₀
+        ≡ readWith (verdictBy (q .fine) (allZero (q .rest) size) (agrees ids (q .listed))) size q c₀ o₀ t₀
     unfolding readWith
     read-complete h = read-listed 1 (in-order Complete h (λ x. cc)) ∙ ap (λ (u : Verdict). readWith u size q c₀ o₀ t₀) (judged Complete h)
 
     pub read-stuck : v ≡ Stuck → answered (answer 0 0 a b) c o t
-        ≡ readWith (verdictBy (q .fine) (allZero (q .rest) size) (fits ids (q .listed))) size q c₀ o₀ t₀
+        ≡ readWith (verdictBy (q .fine) (allZero (q .rest) size) (agrees ids (q .listed))) size q c₀ o₀ t₀
     unfolding readWith
     read-stuck h = read-listed 0 (in-order Stuck h (λ x. cc)) ∙ ap (λ (u : Verdict). readWith u size q c₀ o₀ t₀) (judged Stuck h)
 
     pub read-false : v ≡ False → {c′ : Columns} {o′ t′ : List ℕ} → c′ ≡ filled size (λ i. 𝟎) c → o′ ≡ listedInto size [] o → t′ ≡ listedInto size [] t
         → answered (answer 6 0 0 0) c′ o′ t′
-        ≡ readWith (verdictBy (q .fine) (allZero (q .rest) size) (fits ids (q .listed))) size q c₀ o₀ t₀
+        ≡ readWith (verdictBy (q .fine) (allZero (q .rest) size) (agrees ids (q .listed))) size q c₀ o₀ t₀
     unfolding readWith
     read-false h x y z =
         (λ k. answered (answer 6 0 0 0) ((x ∙ cleared-columns) k) ((y ∙ cleared-ours) k) ((z ∙ cleared-theirs) k))
@@ -265,7 +265,7 @@ module _ (derive : ℕ → ℕ) (size salt : ℕ) (t : List ℕ) (c : Columns) (
   pub read-ends : isTable derive t && areCounts size (c .counts) ≡ true → inRange size salt ≡ true
       → hasRoom size c && (leb size (length o) && leb size (length th)) ≡ true
       → readWith (verdictBy (outcomeOf derive size salt t c .fine) (allZero (outcomeOf derive size salt t c .rest) size)
-      (fits (idsOf derive t) (outcomeOf derive size salt t c .listed))) size (outcomeOf derive size salt t c) c o th
+      (agrees (idsOf derive t) (outcomeOf derive size salt t c .listed))) size (outcomeOf derive size salt t c) c o th
       ≡ readCall derive size salt t c o th
   unfolding readCall readRefusal verdict
   read-ends x y z = rw (x, y, z)

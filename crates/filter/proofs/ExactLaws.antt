@@ -17,7 +17,7 @@ use Rattle.filter.specs.declared.answers.Verdict.{Verdict}
 use Rattle.filter.specs.declared.answers.Verdict.the-variants.{Complete, Stuck, False}
 use Rattle.filter.specs.Lists.{select}
 use Rattle.filter.specs.Filter.{Item, ours, theirs, idOf, ids, oursOf, theirsOf, Rule, touches, sumAt, load, filterOf, difference}
-use Rattle.filter.specs.Peeling.{allZero, Outcome, fits, isComplete, look, next, reading, verdict}
+use Rattle.filter.specs.Peeling.{allZero, Outcome, agrees, isComplete, look, next, reading, verdict}
 use Rattle.filter.specs.Stopping.{differing, IsClosed, StoppingSet, Exactly}
 use Rattle.filter.proofs.OrderLaws.{same-test}
 use Rattle.filter.proofs.SelectLaws.{
@@ -43,7 +43,7 @@ use Rattle.filter.proofs.SideLaws.{
   differing-distinct,
   differing-ours,
   differing-theirs,
-  differing-fits,
+  differing-agrees,
 }
 use Rattle.filter.proofs.SumLaws.{sum-nil, difference-sum}
 use Rattle.filter.proofs.LoadLaws.{look-cell, load-one, mem-load, busy-le}
@@ -69,7 +69,7 @@ not-all-zero f (suc n) i h e = go (eq-or-lt-of-le (le-of-suc-le-suc h)) (λ p. n
     go (inr p) ih = and-fails (isZero (f n)) (ih p)
 
 module _ (R : Rule) (t : List ℕ) (r : Outcome) (fine : r .fine ≡ true) where
-  is-complete : allZero (r .rest) (R .size) ≡ true → fits t (r .listed) ≡ true → verdict R t r ≡ Complete
+  is-complete : allZero (r .rest) (R .size) ≡ true → agrees t (r .listed) ≡ true → verdict R t r ≡ Complete
   unfolding verdict
   is-complete z w = rw (fine, z, w)
 
@@ -182,7 +182,7 @@ module _ (R : Rule) (placed : Placed R) (t s : List ℕ) (dt : Distinct t) (ds :
   if-empty e =
       is-complete R t r (end .fine)
       (all-zero-of (r .rest) (R .size) (λ i h. end .state .holds i h ∙ ap (λ (l : List Item). sumAt R l i) e ∙ sum-nil R i))
-      (differing-fits t s (r .listed) (end .state .from))
+      (differing-agrees t s (r .listed) (end .state .from))
 
   -- something is left: a bucket of it is shared, so it is not zero
   if-some : (x : Item) → List·Memᴰ x rest → verdict R t r ≡ Stuck

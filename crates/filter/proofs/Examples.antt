@@ -10,8 +10,9 @@ use Rattle.bucket.specs.Bucket.{_⊕_, neg, 𝟎, isZero}
 use Rattle.bucket.specs.Crc.{crcOf, crc32, feed, steps}
 use Rattle.bucket.specs.Digits.{groups}
 use Rattle.bucket.specs.Lists.{elem}
-use Rattle.bucket.specs.Places.{draw, candidates, firsts, placesBy, placeCount}
+use Rattle.bucket.specs.Places.{draw, candidates, firsts, placesBy}
 use Rattle.bucket.specs.Salt.{rot, salted, unsalted}
+use Rattle.bucket.proofs.PlaceLaws.{place-count-37}
 use Rattle.filter.specs.declared.answers.Verdict.the-variants.{Complete, Stuck}
 use Rattle.filter.specs.Lists.{select, minus}
 use Rattle.filter.specs.Filter.{
@@ -30,7 +31,7 @@ use Rattle.filter.specs.Filter.{
   filterOf,
   difference,
 }
-use Rattle.filter.specs.Peeling.{first, allZero, fits, isPure, look, remove, next, run, reading, verdict}
+use Rattle.filter.specs.Peeling.{first, allZero, agrees, isPure, look, remove, next, run, reading, verdict}
 use Rattle.filter.specs.Numbers.{worked}
 use Rattle.filter.specs.Stopping.{differing, Clear, StoppingSet}
 use Rattle.filter.proofs.ClearLaws.{
@@ -86,7 +87,7 @@ unfolding real realPlaces realChecks
 real-same = noted-same (filterRule 37 0) realPlaces realChecks places-right checks-right
   where
     places-right : Right realPlaces (filterRule 37 0 .places)
-    places-right = unfold placesBy placeCount firsts candidates draw crcOf crc32 feed steps groups elem in (refl, (refl, (refl, tt)))
+    places-right = rw place-count-37 (unfold placesBy firsts candidates draw crcOf crc32 feed steps groups elem in (refl, (refl, (refl, tt))))
 
     checks-right : Right realChecks crcOf
     checks-right = unfold crcOf crc32 feed steps groups in (refl, (refl, (refl, tt)))
@@ -122,7 +123,7 @@ free-complete = subst (λ (R : Rule). verdict R (1 ∷ []) (reading R (differenc
     test : verdict real (1 ∷ []) (reading real (difference real (1 ∷ []) (filterOf real (11 ∷ [])))) ≡ Complete
     test =
         unfold real noted known realPlaces realChecks reading run next first look isPure difference filterOf sumAt put touches
-        cell remove neg _⊕_ 𝟎 elem verdict allZero isZero fits salted unsalted rot in refl
+        cell remove neg _⊕_ 𝟎 elem verdict allZero isZero agrees salted unsalted rot in refl
 
 -- three of ours, two of them with the same places: those two are a stopping set, and the third is listed
 
@@ -164,4 +165,4 @@ twins-stuck = subst Ends real-same test
     test : Ends real
     test =
         unfold real noted known realPlaces realChecks reading run next first look isPure difference filterOf sumAt put touches
-        cell remove neg _⊕_ 𝟎 elem oursOf theirsOf verdict allZero isZero fits salted unsalted rot in (refl, refl, refl)
+        cell remove neg _⊕_ 𝟎 elem oursOf theirsOf verdict allZero isZero agrees salted unsalted rot in (refl, refl, refl)

@@ -11,7 +11,7 @@ use lib.Seq.{drop-cons, getD-take, length-take-le}
 use Rattle.bucket.specs.Bucket.{Bucket, isZero}
 use Rattle.bucket.specs.Lists.{elem}
 use Rattle.filter.specs.Filter.{Item, ours, theirs, oursOf, theirsOf}
-use Rattle.filter.specs.Peeling.{allZero, fits}
+use Rattle.filter.specs.Peeling.{allZero, agrees}
 use Rattle.filter.specs.Steps.{agree, every}
 
 -- the buckets from i to n are zero
@@ -106,15 +106,15 @@ every-reverse want t (x ∷ l) =
     ∙ and-comm (every want t l) (agree want (elem x t))
 
 -- "an ID listed as ours is not in our table or one listed as theirs is", by the two lists
-pub fits-sides : (t : List ℕ) (l : List Item) → every true t (oursOf l) && every false t (theirsOf l) ≡ fits t l
-unfolding every fits oursOf theirsOf
-fits-sides t [] = refl
-fits-sides t (ours a ∷ l) = and-left (elem a t) (every true t (oursOf l)) (every false t (theirsOf l)) ∙ ap (λ (r : Bool). elem a t && r) (fits-sides t l)
+pub agrees-sides : (t : List ℕ) (l : List Item) → every true t (oursOf l) && every false t (theirsOf l) ≡ agrees t l
+unfolding every agrees oursOf theirsOf
+agrees-sides t [] = refl
+agrees-sides t (ours a ∷ l) = and-left (elem a t) (every true t (oursOf l)) (every false t (theirsOf l)) ∙ ap (λ (r : Bool). elem a t && r) (agrees-sides t l)
   where
     and-left : (x y z : Bool) → (x && y) && z ≡ x && (y && z)
     and-left true y z = refl
     and-left false y z = refl
-fits-sides t (theirs a ∷ l) = and-right (not (elem a t)) (every true t (oursOf l)) (every false t (theirsOf l)) ∙ ap (λ (r : Bool). not (elem a t) && r) (fits-sides t l)
+agrees-sides t (theirs a ∷ l) = and-right (not (elem a t)) (every true t (oursOf l)) (every false t (theirsOf l)) ∙ ap (λ (r : Bool). not (elem a t) && r) (agrees-sides t l)
   where
     and-right : (x y z : Bool) → y && (x && z) ≡ x && (y && z)
     and-right true y z = refl

@@ -24,7 +24,7 @@ use Rattle.filter.specs.Peeling.{
   nothing,
   again,
   take,
-  judge,
+  chosen,
   Outcome,
   ended,
   isPure,
@@ -132,26 +132,26 @@ module _ (R : Rule) where
 
 -- ---- what comes next
 
-pub judge-take : (o : Option Item) (acc : List Item) (x : Item) → judge o acc ≡ take x → (o ≡ some x) × (elem (idOf x) (ids acc) ≡ false)
-judge-take none acc x e = (cc, cc)
-judge-take (some y) acc x e = go (elem (idOf y) (ids acc)) refl e
+pub chosen-take : (o : Option Item) (acc : List Item) (x : Item) → chosen o acc ≡ take x → (o ≡ some x) × (elem (idOf x) (ids acc) ≡ false)
+chosen-take none acc x e = (cc, cc)
+chosen-take (some y) acc x e = go (elem (idOf y) (ids acc)) refl e
   where
     go : (t : Bool) → elem (idOf y) (ids acc) ≡ t → cond t again (take y) ≡ take x
         → (_≡_ {A = Option Item} (some y) (some x)) × (elem (idOf x) (ids acc) ≡ false)
     go true h k = (cc, cc)
     go false h k = (cc, cc)
 
-pub judge-nothing : (o : Option Item) (acc : List Item) → judge o acc ≡ nothing → o ≡ none
-judge-nothing none acc e = refl
-judge-nothing (some y) acc e = go (elem (idOf y) (ids acc)) e
+pub chosen-nothing : (o : Option Item) (acc : List Item) → chosen o acc ≡ nothing → o ≡ none
+chosen-nothing none acc e = refl
+chosen-nothing (some y) acc e = go (elem (idOf y) (ids acc)) e
   where
     go : (t : Bool) → cond t again (take y) ≡ nothing → _≡_ {A = Option Item} (some y) none
     go true k = cc
     go false k = cc
 
-pub judge-again : (o : Option Item) (acc : List Item) → judge o acc ≡ again → (x : Item) × (o ≡ some x) × (elem (idOf x) (ids acc) ≡ true)
-judge-again none acc e = (ours 0, cc, cc)
-judge-again (some y) acc e = (y, refl, go (elem (idOf y) (ids acc)) e)
+pub chosen-again : (o : Option Item) (acc : List Item) → chosen o acc ≡ again → (x : Item) × (o ≡ some x) × (elem (idOf x) (ids acc) ≡ true)
+chosen-again none acc e = (ours 0, cc, cc)
+chosen-again (some y) acc e = (y, refl, go (elem (idOf y) (ids acc)) e)
   where
     go : (t : Bool) → cond t again (take y) ≡ again → t ≡ true
     go true k = refl
@@ -160,24 +160,24 @@ judge-again (some y) acc e = (y, refl, go (elem (idOf y) (ids acc)) e)
 module _ (R : Rule) (acc : List Item) (f : ℕ → Bucket) where
   pub next-take : (x : Item) → next R acc f ≡ take x → (first (looks R f) 0 (R .size) ≡ some x) × (elem (idOf x) (ids acc) ≡ false)
   unfolding next
-  next-take x e = judge-take (first (looks R f) 0 (R .size)) acc x e
+  next-take x e = chosen-take (first (looks R f) 0 (R .size)) acc x e
 
   pub next-nothing : next R acc f ≡ nothing → first (looks R f) 0 (R .size) ≡ none
   unfolding next
-  next-nothing e = judge-nothing (first (looks R f) 0 (R .size)) acc e
+  next-nothing e = chosen-nothing (first (looks R f) 0 (R .size)) acc e
 
   pub next-again : next R acc f ≡ again → (x : Item) × (first (looks R f) 0 (R .size) ≡ some x) × (elem (idOf x) (ids acc) ≡ true)
   unfolding next
-  next-again e = judge-again (first (looks R f) 0 (R .size)) acc e
+  next-again e = chosen-again (first (looks R f) 0 (R .size)) acc e
 
   pub next-none : ((i : ℕ) → i < R .size → isPure R i (f i) ≡ false) → next R acc f ≡ nothing
   unfolding next
-  next-none h = ap (λ (o : Option Item). judge o acc) (first-impure R f (R .size) h)
+  next-none h = ap (λ (o : Option Item). chosen o acc) (first-impure R f (R .size) h)
 
   module _ (i : ℕ) (below : (j : ℕ) → j < i → isPure R j (f j) ≡ false) (inside : i < R .size) (here : isPure R i (f i) ≡ true) where
     next-pure : next R acc f ≡ cond (elem (idOf (shown R (f i))) (ids acc)) again (take (shown R (f i)))
     unfolding next
-    next-pure = ap (λ (o : Option Item). judge o acc) (first-pure R f (R .size) i below inside here)
+    next-pure = ap (λ (o : Option Item). chosen o acc) (first-pure R f (R .size) i below inside here)
 
     pub next-fresh : elem (idOf (shown R (f i))) (ids acc) ≡ false → next R acc f ≡ take (shown R (f i))
     next-fresh e = next-pure ∙ ap (λ (t : Bool). cond t again (take (shown R (f i)))) e
@@ -259,7 +259,7 @@ module _ (R : Rule) where
   pub next-cong : (acc : List Item) (f g : ℕ → Bucket) → Same f g → next R acc f ≡ next R acc g
   unfolding next
   next-cong acc f g s =
-      ap (λ (o : Option Item). judge o acc) (first-cong (looks R f) (looks R g) 0 (R .size) (λ i l h. ap (look R i) (s i (omega arith))))
+      ap (λ (o : Option Item). chosen o acc) (first-cong (looks R f) (looks R g) 0 (R .size) (λ i l h. ap (look R i) (s i (omega arith))))
 
   pub remove-cong : (x : Item) (f g : ℕ → Bucket) → Same f g → Same (remove R x f) (remove R x g)
   unfolding remove

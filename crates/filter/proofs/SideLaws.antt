@@ -11,7 +11,7 @@ use Rattle.bucket.specs.Lists.{elem, Distinct}
 use Rattle.bucket.proofs.ListLaws.{elem-cons-ne, elem-not-head, elem-not-tail}
 use Rattle.filter.specs.Lists.{minus}
 use Rattle.filter.specs.Filter.{Item, ours, theirs, idOf, ids, oursOf, theirsOf}
-use Rattle.filter.specs.Peeling.{fits}
+use Rattle.filter.specs.Peeling.{agrees}
 use Rattle.filter.specs.Stopping.{differing}
 use Rattle.filter.proofs.SelectLaws.{not-both, mem-elem, key-same, distinct-append, distinct-minus, mem-minus, mem-minus-not, minus-self}
 
@@ -145,11 +145,11 @@ onSide : List ℕ → Item → Bool
 onSide t (ours a) = elem a t
 onSide t (theirs a) = not (elem a t)
 
-fits-of : (t : List ℕ) (l : List Item) → ((x : Item) → List·Memᴰ x l → onSide t x ≡ true) → fits t l ≡ true
-unfolding fits onSide
-fits-of t [] h = refl
-fits-of t (ours a ∷ l) h = ap₂ _&&_ (h (ours a) (head refl)) (fits-of t l (λ x m. h x (tail m)))
-fits-of t (theirs a ∷ l) h = ap₂ _&&_ (h (theirs a) (head refl)) (fits-of t l (λ x m. h x (tail m)))
+agrees-of : (t : List ℕ) (l : List Item) → ((x : Item) → List·Memᴰ x l → onSide t x ≡ true) → agrees t l ≡ true
+unfolding agrees onSide
+agrees-of t [] h = refl
+agrees-of t (ours a ∷ l) h = ap₂ _&&_ (h (ours a) (head refl)) (agrees-of t l (λ x m. h x (tail m)))
+agrees-of t (theirs a ∷ l) h = ap₂ _&&_ (h (theirs a) (head refl)) (agrees-of t l (λ x m. h x (tail m)))
 
 differing-side : (t s : List ℕ) (x : Item) → List·Memᴰ x (differing t s) → onSide t x ≡ true
 unfolding onSide
@@ -158,8 +158,8 @@ differing-side t s (ours a) m =
 differing-side t s (theirs a) m =
     mem-minus-not s t a (subst (λ (l : List ℕ). List·Memᴰ a l) (differing-theirs t s) (mem-theirs a (differing t s) m))
 
-pub differing-fits : (t s : List ℕ) (l : List Item) → ((x : Item) → List·Memᴰ x l → List·Memᴰ x (differing t s)) → fits t l ≡ true
-differing-fits t s l h = fits-of t l (λ x m. differing-side t s x (h x m))
+pub differing-agrees : (t s : List ℕ) (l : List Item) → ((x : Item) → List·Memᴰ x l → List·Memᴰ x (differing t s)) → agrees t l ≡ true
+differing-agrees t s l h = agrees-of t l (λ x m. differing-side t s x (h x m))
 
 -- ---- how many
 

@@ -13,7 +13,7 @@ use Rattle.bucket.proofs.BucketLaws.{⊕-assoc, ⊕-comm, ⊕-left-comm, ⊕-ri
 use Rattle.filter.specs.declared.answers.Verdict.the-variants.{Complete}
 use Rattle.filter.specs.Lists.{minus}
 use Rattle.filter.specs.Filter.{Item, ours, theirs, ids, oursOf, theirsOf, Rule, put, sumAt, filterOf, difference}
-use Rattle.filter.specs.Peeling.{allZero, Next, nothing, again, take, Outcome, fits, verdictBy, remove, next, run, reading, verdict}
+use Rattle.filter.specs.Peeling.{allZero, Next, nothing, again, take, Outcome, agrees, verdictBy, remove, next, run, reading, verdict}
 use Rattle.filter.proofs.SelectLaws.{elem-mem}
 use Rattle.filter.proofs.SideLaws.{distinct-ours}
 use Rattle.filter.proofs.SumLaws.{filter-append, sum-minus, sum-sides}
@@ -33,13 +33,13 @@ all-zero f (suc n) i e h = go (eq-or-lt-of-le (le-of-suc-le-suc h)) (all-zero f 
     go (inl p) ih = ap f p ∙ is-zero-true (f n) (both .0)
     go (inr p) ih = ih p
 
-fits-ours : (t : List ℕ) (l : List Item) → fits t l ≡ true → (a : ℕ) → List·Memᴰ a (oursOf l) → List·Memᴰ a t
-unfolding fits oursOf
-fits-ours t [] e a m = elim m [ ]
-fits-ours t (ours b ∷ l) e a (head h) =
-    subst (λ (c : ℕ). List·Memᴰ c t) (sym h) (elem-mem b t (and-eq-true-iff (elem b t) (fits t l) .0 e .0))
-fits-ours t (ours b ∷ l) e a (tail m) = fits-ours t l (and-eq-true-iff (elem b t) (fits t l) .0 e .1) a m
-fits-ours t (theirs b ∷ l) e a m = fits-ours t l (and-eq-true-iff (not (elem b t)) (fits t l) .0 e .1) a m
+agrees-ours : (t : List ℕ) (l : List Item) → agrees t l ≡ true → (a : ℕ) → List·Memᴰ a (oursOf l) → List·Memᴰ a t
+unfolding agrees oursOf
+agrees-ours t [] e a m = elim m [ ]
+agrees-ours t (ours b ∷ l) e a (head h) =
+    subst (λ (c : ℕ). List·Memᴰ c t) (sym h) (elem-mem b t (and-eq-true-iff (elem b t) (agrees t l) .0 e .0))
+agrees-ours t (ours b ∷ l) e a (tail m) = agrees-ours t l (and-eq-true-iff (elem b t) (agrees t l) .0 e .1) a m
+agrees-ours t (theirs b ∷ l) e a m = agrees-ours t l (and-eq-true-iff (not (elem b t)) (agrees t l) .0 e .1) a m
 
 pub verdict-complete : (a b c : Bool) → verdictBy a b c ≡ Complete → (a ≡ true) × (b ≡ true) × (c ≡ true)
 verdict-complete false z t e = (cc, cc, cc)
@@ -104,8 +104,8 @@ module _ (R : Rule) where
       l : List Item
       l = r .listed
 
-      tests : (r .fine ≡ true) × (allZero (r .rest) (R .size) ≡ true) × (fits t l ≡ true)
-      tests = unfold verdict in verdict-complete (r .fine) (allZero (r .rest) (R .size)) (fits t l) v
+      tests : (r .fine ≡ true) × (allZero (r .rest) (R .size) ≡ true) × (agrees t l ≡ true)
+      tests = unfold verdict in verdict-complete (r .fine) (allZero (r .rest) (R .size)) (agrees t l) v
 
       -- nothing remains, so the listed items make up the difference
       listed-sum : sumAt R l i ≡ f i
@@ -122,6 +122,6 @@ module _ (R : Rule) where
           ap (λ (b : Bucket). b ⊕ g i) (sym (sum-sides R l i))
           ∙ ⊕-right-comm (sumAt R l i) (filterOf R (theirsOf l) i) (g i)
           ∙ ap (λ (b : Bucket). b ⊕ filterOf R (theirsOf l) i)
-          (plus ∙ sum-minus R t (oursOf l) i d (distinct-ours l (reading-distinct f)) (fits-ours t l (tests .2)))
+          (plus ∙ sum-minus R t (oursOf l) i d (distinct-ours l (reading-distinct f)) (agrees-ours t l (tests .2)))
           ∙ ⊕-assoc (filterOf R (oursOf l) i) (filterOf R (minus t (oursOf l)) i) (filterOf R (theirsOf l) i)
           ∙ ap (λ (b : Bucket). filterOf R (oursOf l) i ⊕ b) (sym (filter-append R (minus t (oursOf l)) (theirsOf l) i))

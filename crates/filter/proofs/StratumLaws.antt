@@ -26,7 +26,7 @@ use Rattle.filter.specs.declared.answers.Verdict.{Verdict}
 use Rattle.filter.specs.declared.answers.Verdict.the-variants.{Complete, Stuck}
 use Rattle.filter.specs.Lists.{select, minus}
 use Rattle.filter.specs.Filter.{Item, ours, theirs, ids, oursOf, theirsOf, Rule, touches, cell, put, sumAt, load, filterOf, difference}
-use Rattle.filter.specs.Peeling.{Outcome, allZero, fits, verdictBy, isComplete, reading, verdict}
+use Rattle.filter.specs.Peeling.{Outcome, allZero, agrees, verdictBy, isComplete, reading, verdict}
 use Rattle.filter.specs.Stopping.{differing, Clear, StoppingSet, Exactly}
 use Rattle.filter.specs.Estimator.{estimatorRule, inStratum, stratumRule, stratum, less, strataVerdict, readingAt, readings, estimateOf}
 use Rattle.filter.proofs.OrderLaws.{same-test}
@@ -86,7 +86,7 @@ without-table : (R : Rule) (t : List ℕ) (r : Outcome) → verdict R t r ≡ Co
     → verdictBy (r .fine) (allZero (r .rest) (R .size)) true ≡ Complete
 unfolding verdict
 without-table R t r e =
-    let tests = verdict-complete (r .fine) (allZero (r .rest) (R .size)) (fits t (r .listed)) e in rw (tests .0, tests .1)
+    let tests = verdict-complete (r .fine) (allZero (r .rest) (R .size)) (agrees t (r .listed)) e in rw (tests .0, tests .1)
 
 module _ (R : Rule) (t s : List ℕ) (dt : Distinct t) (ds : Distinct s) where
   -- a complete reading leaves no stopping set, so nothing is missing
@@ -128,7 +128,7 @@ module _ (R : Rule) (t s : List ℕ) (dt : Distinct t) (ds : Distinct s) where
         go (inl k) = k
         go (inr k) =
             let tests = verdict-complete (r .fine) (allZero (r .rest) (R .size)) true e in
-            absurd (not-stuck (fits t (r .listed)) (rw (tests .0, tests .1) at k))
+            absurd (not-stuck (agrees t (r .listed)) (rw (tests .0, tests .1) at k))
 
     pub complete-counted : verdictBy (reading R (difference R t g) .fine) (allZero (reading R (difference R t g) .rest) (R .size)) true ≡ Complete
         → length (reading R (difference R t g) .listed) ≡ length (differing t s)

@@ -13,7 +13,7 @@ use Rattle.filter.specs.declared.answers.Refusal.{Refusal}
 use Rattle.filter.specs.declared.answers.Refusal.the-variants.{None, Form, Room, Range, Malformed, OutOfTurn, FalseReading, Breach, Checksum, Swaps, Limit}
 use Rattle.filter.specs.declared.answers.Reading.{Reading}
 use Rattle.filter.specs.declared.answers.Reading.the-variants.{Complete, Stuck, BadForm, BadRange, NoRoom, Untrue}
-use Rattle.filter.specs.declared.answers.Answer.{Answer}
+use Rattle.filter.specs.declared.answers.ReadAnswer.{ReadAnswer}
 use Rattle.filter.specs.declared.answers.Estimation.{Estimation}
 use Rattle.filter.specs.declared.answers.Estimation.the-variants.{Made, NotCounts, TooShort}
 use Rattle.filter.specs.declared.answers.Estimate.{Estimate}
@@ -37,10 +37,10 @@ firstOf [] = None
 firstOf (t ∷ ts) = cond (t .1) (firstOf ts) (t .0)
 
 -- a reading's answer: the refusal's number, 1 for complete, and how many IDs are listed as ours and as theirs
-abbrev pub answer : ℕ → ℕ → ℕ → ℕ → Answer
+abbrev pub answer : ℕ → ℕ → ℕ → ℕ → ReadAnswer
 answer n whole a b = record { refusal = n; complete = whole; ours = a; theirs = b }
 
-abbrev pub answerOf : Reading → Answer
+abbrev pub answerOf : Reading → ReadAnswer
 answerOf (Complete a b) = answer 0 1 a b
 answerOf (Stuck a b) = answer 0 0 a b
 answerOf BadForm = answer (refusalNumber Form) 0 0 0

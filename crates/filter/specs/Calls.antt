@@ -21,7 +21,7 @@ use Rattle.bucket.specs.Columns.{Columns, view, place}
 use Rattle.bucket.specs.Lists.{over, pad}
 use Rattle.filter.specs.declared.answers.Refusal.{Refusal}
 use Rattle.filter.specs.declared.answers.Refusal.the-variants.{Form, Room, Range, FalseReading}
-use Rattle.filter.specs.declared.answers.Answer.{Answer}
+use Rattle.filter.specs.declared.answers.ReadAnswer.{ReadAnswer}
 use Rattle.filter.specs.declared.answers.Verdict.{Verdict}
 use Rattle.filter.specs.declared.answers.Verdict.the-variants.{Complete, Stuck, False}
 use Rattle.filter.specs.Answers.{refusalNumber, firstOf, answer}
@@ -81,12 +81,12 @@ readRefusal derive size salt t c o th =
     ∷ [])
 
 pub record Read : Type 0 where
-  pub answer : Answer
+  pub answer : ReadAnswer
   pub columns : Columns
   pub ours : List ℕ
   pub theirs : List ℕ
 
-abbrev pub answered : Answer → Columns → List ℕ → List ℕ → Read
+abbrev pub answered : ReadAnswer → Columns → List ℕ → List ℕ → Read
 answered a c o th = record { answer = a; columns = c; ours = o; theirs = th }
 
 -- a refusal, and what it leaves

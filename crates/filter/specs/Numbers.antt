@@ -15,7 +15,7 @@ use Rattle.bucket.specs.Bucket.{bucket, _⊕_, _⊖_, neg, 𝟎, isZero}
 use Rattle.bucket.specs.Lists.{elem}
 use Rattle.filter.specs.declared.answers.Verdict.the-variants.{Stuck}
 use Rattle.filter.specs.Filter.{Item, ours, theirs, Rule, touches, cell, put, sumAt, filterOf, difference}
-use Rattle.filter.specs.Peeling.{first, allZero, Outcome, ended, fits, isPure, look, remove, next, run, reading, verdict}
+use Rattle.filter.specs.Peeling.{first, allZero, Outcome, ended, agrees, isPure, look, remove, next, run, reading, verdict}
 use Rattle.filter.specs.Estimator.{estimateOf}
 
 -- "knots, places given: p and q both {0,1,2}, r {2,3,4}", with p = 1, q = 2, r = 3 and any check sum
@@ -71,7 +71,7 @@ pub numbers :
     × (workedReading .rest 3 ≡ 𝟎)
     × (workedReading .rest 4 ≡ 𝟎)
 unfolding salted rot packed groups joined widthOf stratumOf trailingZeros leadingZeros _⊕_ neg 𝟎 reading run next first look isPure difference filterOf
-    sumAt put touches cell remove elem verdict allZero isZero fits estimateOf
+    sumAt put touches cell remove elem verdict allZero isZero agrees estimateOf
 numbers = (
   refl,
   refl,

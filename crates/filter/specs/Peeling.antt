@@ -6,7 +6,7 @@
 --   next R acc f       what a look from bucket 0 leads to: nothing is pure, an ID would be listed again, or an item is taken
 --   remove R x f       the buckets with an item taken out of all its places
 --   run, reading       the peeling: its items (last first), what remains, and whether it ended in order
---   fits t l           each ID listed as ours is in the table, and none listed as theirs is
+--   agrees t l         each ID listed as ours is in the table, and none listed as theirs is
 --   verdict R t r      complete, stuck or false, by document 01
 --
 -- Each look begins at bucket 0, so the number of buckets looked at can be read off `first`.
@@ -47,9 +47,9 @@ pub data Next : Type 0 where
   take : Item → Next
 
 -- "False: an ID already listed, on whichever side, would be listed again"
-abbrev pub judge : Option Item → List Item → Next
-judge none acc = nothing
-judge (some x) acc = cond (elem (idOf x) (ids acc)) again (take x)
+abbrev pub chosen : Option Item → List Item → Next
+chosen none acc = nothing
+chosen (some x) acc = cond (elem (idOf x) (ids acc)) again (take x)
 
 -- how a peeling ends: in order or not, the items listed (last first), and what remains
 pub record Outcome : Type 0 where
@@ -60,10 +60,10 @@ pub record Outcome : Type 0 where
 abbrev pub ended : Bool → List Item → (ℕ → Bucket) → Outcome
 ended t acc f = record { fine = t; listed = acc; rest = f }
 
-unfoldable pub fits : List ℕ → List Item → Bool
-fits t [] = true
-fits t (ours a ∷ l) = elem a t && fits t l
-fits t (theirs a ∷ l) = not (elem a t) && fits t l
+unfoldable pub agrees : List ℕ → List Item → Bool
+agrees t [] = true
+agrees t (ours a ∷ l) = elem a t && agrees t l
+agrees t (theirs a ∷ l) = not (elem a t) && agrees t l
 
 -- not in order: false; something is not zero: stuck; the table's test, "judged once the columns are zero"
 abbrev pub verdictBy : Bool → Bool → Bool → Verdict
@@ -91,7 +91,7 @@ module _ (R : Rule) where
 
   -- "Peeling takes the lowest-numbered pure bucket .. then it looks again from bucket 0"
   unfoldable pub next : List Item → (ℕ → Bucket) → Next
-  next acc f = judge (first (λ i. look i (f i)) 0 (R .size)) acc
+  next acc f = chosen (first (λ i. look i (f i)) 0 (R .size)) acc
 
   -- n more peels may be made; "False: .. or more peels would be made than there are buckets"
   unfoldable pub run : ℕ → Next → List Item → (ℕ → Bucket) → Outcome
@@ -106,4 +106,4 @@ module _ (R : Rule) where
   reading f = run (R .size) (next [] f) [] f
 
   unfoldable pub verdict : List ℕ → Outcome → Verdict
-  verdict t r = verdictBy (r .fine) (allZero (r .rest) (R .size)) (fits t (r .listed))
+  verdict t r = verdictBy (r .fine) (allZero (r .rest) (R .size)) (agrees t (r .listed))

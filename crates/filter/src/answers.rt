@@ -54,7 +54,7 @@ pub enum Reading {
 
 // The same in numbers: the refusal's, 1 for complete, and how many IDs are listed as ours and as theirs.
 #[repr(C)]
-pub struct Answer {
+pub struct ReadAnswer {
     pub refusal: u32,
     pub complete: u32,
     pub ours: usize,
@@ -95,17 +95,17 @@ pub fn refusal_number(r: Refusal) -> u32
     }
 }
 
-pub fn numbers(r: Reading) -> Answer
+pub fn numbers(r: Reading) -> ReadAnswer
     ensures { λ n. ⌜ n ≡ answerOf r ⌝ }
 {
     match r {
-        Reading::Complete { ours, theirs } => Answer {
+        Reading::Complete { ours, theirs } => ReadAnswer {
             refusal: 0,
             complete: 1,
             ours: ours,
             theirs: theirs,
         },
-        Reading::Stuck { ours, theirs } => Answer {
+        Reading::Stuck { ours, theirs } => ReadAnswer {
             refusal: 0,
             complete: 0,
             ours: ours,
@@ -118,10 +118,10 @@ pub fn numbers(r: Reading) -> Answer
     }
 }
 
-fn refused(why: Refusal) -> Answer
+fn refused(why: Refusal) -> ReadAnswer
     ensures { λ n. ⌜ n ≡ answer (refusalNumber why) 0 0 0 ⌝ }
 {
-    Answer {
+    ReadAnswer {
         refusal: refusal_number(why),
         complete: 0,
         ours: 0,

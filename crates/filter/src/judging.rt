@@ -33,7 +33,7 @@ pub(crate) fn judge(
     if !all_zero(ids, hashes, counts, size as usize) {
         return Verdict::Stuck;
     }
-    if !lists_fit(table, ours, a, theirs, b) {
+    if !lists_agree(table, ours, a, theirs, b) {
         return Verdict::False;
     }
     Verdict::Complete
@@ -54,21 +54,21 @@ pub(crate) fn all_zero(ids: &[u64], hashes: &[u32], counts: &[i64], n: usize) ->
 }
 
 // Whether the table has all of the first a IDs of one list and none of the first b of the other. Hints are worth making for many IDs only.
-fn lists_fit(table: &[u8], ours: &[u64], a: usize, theirs: &[u64], b: usize) -> bool
+fn lists_agree(table: &[u8], ours: &[u64], a: usize, theirs: &[u64], b: usize) -> bool
     requires { ⌜ (isTable firstEight (now table) ≡ true) × (a ≤ length (now ours)) × (b ≤ length (now theirs)) ⌝ }
     ensures { λ r. ⌜ r ≡ (every true (idsOf firstEight (now (table .entry))) (take a (now (ours .entry))) && every false (idsOf firstEight (now (table .entry))) (take b (now (theirs .entry)))) ⌝ }
 {
     if a + b < 256 {
         let hint = [0u16; 1];
-        return lists_fit_by(table, &hint, ours, a, theirs, b);
+        return lists_agree_by(table, &hint, ours, a, theirs, b);
     }
     let mut hints = [0u16; 4096];
     crate::finding::fill(table, &mut hints);
-    lists_fit_by(table, &hints, ours, a, theirs, b)
+    lists_agree_by(table, &hints, ours, a, theirs, b)
 }
 
 // The same with hints, for all beginnings of IDs or for some.
-fn lists_fit_by(
+fn lists_agree_by(
     table: &[u8],
     hints: &[u16],
     ours: &[u64],

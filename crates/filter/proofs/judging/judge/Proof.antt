@@ -14,15 +14,15 @@ all-zero-requires c κs = search needs
 returns-2 : tie.Need-returns-2
 returns-2 c = rw (is-fine (c .before .before .before .before .before .before .before .before .args .fine) (c .before .before .if1 .left), test-refused (c .before .all-zero .ensures) (c .if2 .taken))
 
-lists-fit-requires : tie.Need-lists-fit-requires
-lists-fit-requires c κs = search needs
+lists-agree-requires : tie.Need-lists-agree-requires
+lists-agree-requires c κs = search needs
 
 returns-3 : tie.Need-returns-3
 returns-3 c =
     rw (
       is-fine (c .before .before .before .before .before .before .before .before .before .before .args .fine) (c .before .before .before .before .if1 .left),
       test-granted (c .before .before .before .all-zero .ensures) (c .before .before .if2 .left),
-      test-refused (c .before .lists-fit .ensures) (c .if3 .taken),
+      test-refused (c .before .lists-agree .ensures) (c .if3 .taken),
     )
 
 returns-4 : tie.Need-returns-4
@@ -30,9 +30,9 @@ returns-4 c =
     rw (
       is-fine (c .before .before .before .before .before .before .before .before .before .before .args .fine) (c .before .before .before .before .if1 .left),
       test-granted (c .before .before .before .all-zero .ensures) (c .before .before .if2 .left),
-      test-granted (c .before .lists-fit .ensures) (c .if3 .left),
+      test-granted (c .before .lists-agree .ensures) (c .if3 .left),
     )
 
 pub judge-spec : {M : Type 1} → statement M
 judge-spec =
-    tie.close (tie.spec returns all-zero-requires returns-2 lists-fit-requires returns-3 returns-4)
+    tie.close (tie.spec returns all-zero-requires returns-2 lists-agree-requires returns-3 returns-4)

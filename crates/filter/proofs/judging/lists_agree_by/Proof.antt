@@ -1,8 +1,8 @@
--- `judging::lists_fit_by` meets its contract: one list and then the other. Assumes nothing.
+-- `judging::lists_agree_by` meets its contract: one list and then the other. Assumes nothing.
 use borrow.Author.Needs.{needs}
 use Rattle.bucket.proofs.TestLaws.{test-refused, test-granted}
-use Rattle.filter.proofs.judging.lists_fit_by.Statement.{statement}
-use Rattle.filter.proofs.judging.lists_fit_by.Tie as tie
+use Rattle.filter.proofs.judging.lists_agree_by.Statement.{statement}
+use Rattle.filter.proofs.judging.lists_agree_by.Tie as tie
 
 all-held-requires : tie.Need-all-held-requires
 all-held-requires c κs = search needs
@@ -16,5 +16,5 @@ all-held-requires-2 c κs = search needs
 returns-2 : tie.Need-returns-2
 returns-2 c = rw (test-granted (c .before .before .all-held .ensures) (c .before .if1 .left)) (c .all-held2 .ensures)
 
-pub lists-fit-by-spec : {M : Type 1} → statement M
-lists-fit-by-spec = tie.close (tie.spec all-held-requires returns all-held-requires-2 returns-2)
+pub lists-agree-by-spec : {M : Type 1} → statement M
+lists-agree-by-spec = tie.close (tie.spec all-held-requires returns all-held-requires-2 returns-2)
