@@ -2,19 +2,22 @@
 --
 -- complete-trusted: "Whatever the far end sends, .. when it is called complete, the filter made by the rules, at our size and salt, from our
 -- IDs, less those listed as ours, plus those listed as theirs, equals the received one in every bucket and column."
+-- complete-set: "Made by the rules, from a set of IDs" (document 01): what is listed as ours is of our IDs, and what that filter is made from has
+-- no ID twice.
 -- reads-exactly: "Further, let the received filter be made by the rules, at our size and salt, from any set of IDs. Suppose that in no part of
 -- the true difference does a bucket shared by several IDs pass for a bucket holding one ID or none. Then the reading lists exactly the true
 -- difference less its largest knot, if there is one, each ID once and on its right side. It is called complete exactly when there is no knot,
 -- and otherwise stuck."
 --
--- demand-3: both, at document 01's derivation of IDs, which the exported call has. The two are stated over any derivation of 64 bits.
+-- demand-3: all three, at document 01's derivation of IDs, which the exported call has. They are stated over any derivation, the last over one
+-- of 64 bits.
 -- "a reading is document 01's peeling, order and all" is the contract itself: readCall is stated by `reading` and `verdict` of specs/Peeling.
 -- A knot is a stopping set (specs/Stopping). proofs/Examples shows differences that the supposition holds of, with a knot and without.
 -- Assumes nothing.
 use mathlib.Core.Path.{_≡_, refl, sym, ap, ap₂, _∙_, subst}
 use mathlib.Core.Logic.{_⊎_, inl, inr}
 use mathlib.Core.Bool.{Bool, true}
-use mathlib.Core.List.{List, _++_, reverse}
+use mathlib.Core.List.{List, _++_, reverse, List·Memᴰ}
 use Prim.Native.Nat.{ℕ, _^_, _<_}
 use native.Mathlib.Omega.{arith}
 use lib.Dec.{eqb}
@@ -33,10 +36,10 @@ use Rattle.filter.specs.Filter.{Item, ids, oursOf, theirsOf, Rule, filte
 use Rattle.filter.specs.Peeling.{Outcome, isComplete}
 use Rattle.filter.specs.Stopping.{differing, Clear, Exactly}
 use Rattle.filter.specs.Calls.{listedInto, readRefusal, Read, readWith, outcomeOf, verdictOf, readCall}
-use Rattle.filter.proofs.SelectLaws.{elem-mem, mem-elem, elem-reverse, distinct-append, distinct-reverse, minus-cong}
+use Rattle.filter.proofs.SelectLaws.{elem-mem, mem-elem, elem-reverse, distinct-append, distinct-reverse, distinct-minus, mem-minus, minus-cong}
 use Rattle.filter.proofs.SideLaws.{distinct-ours, distinct-theirs, sides-apart}
 use Rattle.filter.proofs.SumLaws.{filter-append, filter-reverse}
-use Rattle.filter.proofs.SoundLaws.{sound, reading-distinct}
+use Rattle.filter.proofs.SoundLaws.{sound, sound-ours, sound-theirs, reading-distinct}
 use Rattle.filter.proofs.LeftLaws.{Fair}
 use Rattle.filter.proofs.ExactLaws.{Placed, exactly, never-false}
 use Rattle.filter.proofs.IdLaws.{ids-distinct, first-eight-below, ids-below, fair, placed}
@@ -50,6 +53,9 @@ abbrev pub listedTheirs : Read → List ℕ
 listedTheirs m = take (m .answer .theirs) (m .theirs)
 
 -- ---- the order of a list does not matter
+
+listed-mem : (l : List ℕ) (a : ℕ) → List·Memᴰ a (reverse l) → List·Memᴰ a l
+listed-mem l a m = elem-mem a l (sym (elem-reverse a l) ∙ mem-elem m)
 
 module _ (R : Rule) where
   filter-listed : (t o th : List ℕ) (i : ℕ)
@@ -74,6 +80,34 @@ module _ (R : Rule) where
 
 -- ---- first half
 
+-- a call that answers complete: its verdict, its table, and its lists
+module _ (derive : ℕ → ℕ) (size salt : ℕ) (t : List ℕ) (c : Columns) (o th : List ℕ)
+    (whole : readCall derive size salt t c o th .answer .complete ≡ 1) where
+  granted : readRefusal derive size salt t c o th ≡ None
+  granted = complete-granted derive size salt t c o th whole
+
+  complete-table : Distinct (idsOf derive t)
+  complete-table = ids-distinct derive t (granted-table derive size salt t c o th granted)
+
+  complete-verdict : verdictOf derive size salt t c ≡ Complete
+  unfolding readWith
+  complete-verdict =
+      go (verdictOf derive size salt t c) (subst (λ (m : Read). m .answer .complete ≡ 1) (granted-read derive size salt t c o th granted) whole)
+    where
+      go : (v : Verdict) → readWith v size (outcomeOf derive size salt t c) c o th .answer .complete ≡ 1 → v ≡ Complete
+      go Complete k = refl
+      go Stuck k = absurd (omega arith)
+      go False k = absurd (omega arith)
+
+  complete-lists :
+      let l = outcomeOf derive size salt t c .listed in
+      (listedOurs (readCall derive size salt t c o th) ≡ reverse (oursOf l)) × (listedTheirs (readCall derive size salt t c o th) ≡ reverse (theirsOf l))
+  unfolding readWith
+  complete-lists =
+      let l = outcomeOf derive size salt t c .listed in
+      rw (granted-read derive size salt t c o th granted, complete-verdict) (listed-back size (oursOf l) o, listed-back size (theirsOf l) th)
+
+-- "the filter made by the rules .. equals the received one in every bucket and column"
 abbrev pub CompleteTrusted : (ℕ → ℕ) → Type 0
 CompleteTrusted derive =
     (size salt : ℕ) (t : List ℕ) (c : Columns) (o th : List ℕ) → readCall derive size salt t c o th .answer .refusal ≡ 0
@@ -82,30 +116,34 @@ CompleteTrusted derive =
     (minus (idsOf derive t) (listedOurs (readCall derive size salt t c o th)) ++ listedTheirs (readCall derive size salt t c o th)) i
 
 pub complete-trusted : (derive : ℕ → ℕ) → CompleteTrusted derive
-unfolding readWith
 complete-trusted derive size salt t c o th accepted whole i h =
-    subst Trusted (sym asked) (go (verdictOf derive size salt t c) refl (subst (λ (m : Read). m .answer .complete ≡ 1) asked whole))
-  where
-    Trusted : Read → Type 0
-    Trusted m = view c i ≡ filterOf (filterRule size salt) (minus (idsOf derive t) (listedOurs m) ++ listedTheirs m) i
+    let R = filterRule size salt in
+    let l = outcomeOf derive size salt t c .listed in
+    let lists = complete-lists derive size salt t c o th whole in
+    rw (lists .0, lists .1)
+    (sound R (idsOf derive t) (view c) (complete-verdict derive size salt t c o th whole) (complete-table derive size salt t c o th whole) i h
+    ∙ sym (filter-listed R (idsOf derive t) (oursOf l) (theirsOf l) i))
 
-    r : Outcome
-    r = outcomeOf derive size salt t c
+-- "from a set of IDs": what is listed as ours is of our IDs, and our IDs less it, with what is listed as theirs, have no ID twice
+abbrev pub CompleteSet : (ℕ → ℕ) → Type 0
+CompleteSet derive =
+    (size salt : ℕ) (t : List ℕ) (c : Columns) (o th : List ℕ) → readCall derive size salt t c o th .answer .complete ≡ 1
+    → ((a : ℕ) → elem a (listedOurs (readCall derive size salt t c o th)) ≡ true → elem a (idsOf derive t) ≡ true)
+    × Distinct (minus (idsOf derive t) (listedOurs (readCall derive size salt t c o th)) ++ listedTheirs (readCall derive size salt t c o th))
 
-    asked : readCall derive size salt t c o th ≡ readWith (verdictOf derive size salt t c) size r c o th
-    asked = granted-read derive size salt t c o th (complete-granted derive size salt t c o th whole)
-
-    table : Distinct (idsOf derive t)
-    table = ids-distinct derive t (granted-table derive size salt t c o th (complete-granted derive size salt t c o th whole))
-
-    go : (v : Verdict) → verdictOf derive size salt t c ≡ v → readWith v size r c o th .answer .complete ≡ 1 → Trusted (readWith v size r c o th)
-    go Complete e k =
-        sound (filterRule size salt) (idsOf derive t) (view c) table e i h
-        ∙ sym (filter-listed (filterRule size salt) (idsOf derive t) (oursOf (r .listed)) (theirsOf (r .listed)) i)
-        ∙ ap₂ (λ (a b : List ℕ). filterOf (filterRule size salt) (minus (idsOf derive t) a ++ b) i)
-        (sym (listed-back size (oursOf (r .listed)) o)) (sym (listed-back size (theirsOf (r .listed)) th))
-    go Stuck e k = absurd (omega arith)
-    go False e k = absurd (omega arith)
+pub complete-set : (derive : ℕ → ℕ) → CompleteSet derive
+complete-set derive size salt t c o th whole =
+    let R = filterRule size salt in
+    let l = outcomeOf derive size salt t c .listed in
+    let lists = complete-lists derive size salt t c o th whole in
+    let v = complete-verdict derive size salt t c o th whole in
+    rw (lists .0, lists .1) (
+      λ a m. mem-elem (sound-ours R (idsOf derive t) (view c) v a (listed-mem (oursOf l) a (elem-mem a (reverse (oursOf l)) m))),
+      distinct-append (minus (idsOf derive t) (reverse (oursOf l))) (reverse (theirsOf l))
+          (distinct-minus (idsOf derive t) (reverse (oursOf l)) (complete-table derive size salt t c o th whole))
+          (distinct-reverse (theirsOf l) (distinct-theirs l (reading-distinct R (difference R (idsOf derive t) (view c)))))
+          (λ a m n. sound-theirs R (idsOf derive t) (view c) v a (listed-mem (theirsOf l) a n) (mem-minus (idsOf derive t) (reverse (oursOf l)) a m)),
+    )
 
 -- ---- second half
 
@@ -153,9 +191,7 @@ reads-exactly derive bound size salt t c o th granted s ds small made clear =
     once =
         distinct-append (reverse (oursOf (r .listed))) (reverse (theirsOf (r .listed)))
         (distinct-reverse (oursOf (r .listed)) (distinct-ours (r .listed) dl)) (distinct-reverse (theirsOf (r .listed)) (distinct-theirs (r .listed) dl))
-        (λ a m n. sides-apart (r .listed) dl a
-        (elem-mem a (oursOf (r .listed)) (sym (elem-reverse a (oursOf (r .listed))) ∙ mem-elem m))
-        (elem-mem a (theirsOf (r .listed)) (sym (elem-reverse a (theirsOf (r .listed))) ∙ mem-elem n)))
+        (λ a m n. sides-apart (r .listed) dl a (listed-mem (oursOf (r .listed)) a m) (listed-mem (theirsOf (r .listed)) a n))
 
     listed : (v : Verdict) → verdictOf derive size salt t c ≡ v
         → Exactly R (idsOf derive t) s (take (length (oursOf (r .listed))) (listedInto size (reverse (oursOf (r .listed))) o))
@@ -172,5 +208,5 @@ reads-exactly derive bound size salt t c o th granted s ds small made clear =
 
 -- ---- demand 3, by document 01's derivation of IDs
 
-pub demand-3 : CompleteTrusted firstEight × ReadsExactly firstEight
-demand-3 = (complete-trusted firstEight, reads-exactly firstEight first-eight-below)
+pub demand-3 : CompleteTrusted firstEight × CompleteSet firstEight × ReadsExactly firstEight
+demand-3 = (complete-trusted firstEight, complete-set firstEight, reads-exactly firstEight first-eight-below)

@@ -209,14 +209,6 @@ pub mem-minus-not : (t s : List ℕ) (a : ℕ) → List·Memᴰ a (minus t s) �
 unfolding minus
 mem-minus-not t s a m = mem-select-true (λ b. not (elem b s)) a t m
 
-pub distinct-minus : (t s : List ℕ) → Distinct t → Distinct (minus t s)
-distinct-minus [] s d = unfold minus select in tt
-distinct-minus (a ∷ t) s d = go (elem a s) refl (distinct-minus t s (d .1))
-  where
-    go : (b : Bool) → elem a s ≡ b → Distinct (minus t s) → Distinct (minus (a ∷ t) s)
-    go true e ih = rw (minus-skip t s a e) ih
-    go false e ih = rw (minus-cons t s a e) (not-elem a (minus t s) (λ m. true≢false (sym (mem-elem (mem-minus t s a m)) ∙ d .0)), ih)
-
 pub pick-minus : (t l : List ℕ) (a : ℕ) → Distinct t → List·Memᴰ a t → elem a l ≡ false → Pick a (minus t l) (minus t (a ∷ l))
 unfolding minus
 pick-minus t l a d m h =
@@ -253,6 +245,10 @@ distinct-select p (a ∷ l) d =
     select-cases (λ (m : List ℕ). Distinct m) p a l
     (λ e. (not-elem a (select p l) (λ m. true≢false (sym (mem-elem (mem-select p a l m)) ∙ d .0)), distinct-select p l (d .1)))
     (λ e. distinct-select p l (d .1))
+
+pub distinct-minus : (t s : List ℕ) → Distinct t → Distinct (minus t s)
+unfolding minus
+distinct-minus t s = distinct-select (λ a. not (elem a s)) t
 
 select-none : (p : ℕ → Bool) (l : List ℕ) → ((a : ℕ) → List·Memᴰ a l → p a ≡ false) → select p l ≡ []
 select-none p [] h = unfold select in refl

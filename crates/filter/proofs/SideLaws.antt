@@ -1,7 +1,7 @@
 -- The two sides of a list of items, and of the true difference of a table and a set. Assumes nothing.
 use mathlib.Core.Path.{_≡_, refl, sym, ap, ap₂, _∙_, subst}
 use mathlib.Core.Logic.{_⊎_, inl, inr}
-use mathlib.Core.Bool.{Bool, true, false, not, _&&_}
+use mathlib.Core.Bool.{true, false, _&&_, and-eq-true-iff}
 use mathlib.Core.List.{List, [], _∷_, _++_, map, List·Memᴰ}
 use mathlib.Core.List.List·Memᴰ.{List·Memᴰ·head as head, List·Memᴰ·tail as tail}
 use Prim.Native.Nat.{ℕ, _+_, _≤_}
@@ -11,9 +11,9 @@ use Rattle.bucket.specs.Lists.{elem, Distinct}
 use Rattle.bucket.proofs.ListLaws.{elem-cons-ne, elem-not-head, elem-not-tail}
 use Rattle.filter.specs.Lists.{minus}
 use Rattle.filter.specs.Filter.{Item, ours, theirs, idOf, ids, oursOf, theirsOf}
-use Rattle.filter.specs.Peeling.{agrees}
+use Rattle.filter.specs.Peeling.{onSide, agrees}
 use Rattle.filter.specs.Stopping.{differing}
-use Rattle.filter.proofs.SelectLaws.{not-both, mem-elem, key-same, distinct-append, distinct-minus, mem-minus, mem-minus-not, minus-self}
+use Rattle.filter.proofs.SelectLaws.{not-both, elem-mem, mem-elem, key-same, distinct-append, distinct-minus, mem-minus, mem-minus-not, minus-self}
 
 pub ours-of : (a b : List ℕ) → oursOf (map ours a ++ map theirs b) ≡ a
 unfolding oursOf
@@ -140,19 +140,25 @@ differing-from t s (ours a) m =
 differing-from t s (theirs a) m =
     inr (mem-minus s t a (subst (λ (l : List ℕ). List·Memᴰ a l) (differing-theirs t s) (mem-theirs a (differing t s) m)))
 
--- an item is on its right side
-onSide : List ℕ → Item → Bool
-onSide t (ours a) = elem a t
-onSide t (theirs a) = not (elem a t)
-
+-- each item is on its right side
 agrees-of : (t : List ℕ) (l : List Item) → ((x : Item) → List·Memᴰ x l → onSide t x ≡ true) → agrees t l ≡ true
-unfolding agrees onSide
+unfolding agrees
 agrees-of t [] h = refl
-agrees-of t (ours a ∷ l) h = ap₂ _&&_ (h (ours a) (head refl)) (agrees-of t l (λ x m. h x (tail m)))
-agrees-of t (theirs a ∷ l) h = ap₂ _&&_ (h (theirs a) (head refl)) (agrees-of t l (λ x m. h x (tail m)))
+agrees-of t (x ∷ l) h = ap₂ _&&_ (h x (head refl)) (agrees-of t l (λ y m. h y (tail m)))
+
+agrees-at : (t : List ℕ) (l : List Item) → agrees t l ≡ true → (x : Item) → List·Memᴰ x l → onSide t x ≡ true
+unfolding agrees
+agrees-at t [] e x m = elim m [ ]
+agrees-at t (y ∷ l) e x (head h) = rw h (and-eq-true-iff (onSide t y) (agrees t l) .0 e .0)
+agrees-at t (y ∷ l) e x (tail m) = agrees-at t l (and-eq-true-iff (onSide t y) (agrees t l) .0 e .1) x m
+
+pub agrees-ours : (t : List ℕ) (l : List Item) → agrees t l ≡ true → (a : ℕ) → List·Memᴰ a (oursOf l) → List·Memᴰ a t
+agrees-ours t l e a m = elem-mem a t (agrees-at t l e (ours a) (ours-mem a l m))
+
+pub agrees-theirs : (t : List ℕ) (l : List Item) → agrees t l ≡ true → (a : ℕ) → List·Memᴰ a (theirsOf l) → List·Memᴰ a t → ⊥
+agrees-theirs t l e a m n = not-both (elem a t) (mem-elem n) (agrees-at t l e (theirs a) (theirs-mem a l m))
 
 differing-side : (t s : List ℕ) (x : Item) → List·Memᴰ x (differing t s) → onSide t x ≡ true
-unfolding onSide
 differing-side t s (ours a) m =
     mem-elem (mem-minus t s a (subst (λ (l : List ℕ). List·Memᴰ a l) (differing-ours t s) (mem-ours a (differing t s) m)))
 differing-side t s (theirs a) m =

@@ -1,21 +1,20 @@
 -- What holds of every reading, whatever was received: what is listed and what remains make up the difference, no ID is listed twice,
--- and a complete reading has found lists that account for the received filter (demand 3, first half, over any rule). Assumes nothing.
-use mathlib.Core.Path.{_≡_, refl, sym, ap, _∙_, subst}
-use mathlib.Core.Bool.{Bool, true, false, not, and-eq-true-iff}
+-- and a complete reading has found lists that agree with the table and account for the received filter (demand 3, first half, over any rule).
+-- Assumes nothing.
+use mathlib.Core.Path.{_≡_, refl, sym, ap, _∙_}
+use mathlib.Core.Bool.{Bool, true, false, and-eq-true-iff}
 use mathlib.Core.List.{List, [], _∷_, _++_, List·Memᴰ}
-use mathlib.Core.List.List·Memᴰ.{List·Memᴰ·head as head, List·Memᴰ·tail as tail}
 use mathlib.Core.Logic.{_⊎_, inl, inr}
 use Prim.Native.Nat.{ℕ, zero, suc, _<_}
 use native.Mathlib.Nat.{not-suc-le-zero, le-of-suc-le-suc, eq-or-lt-of-le}
 use Rattle.bucket.specs.Bucket.{Bucket, _⊕_, _⊖_, 𝟎, isZero}
-use Rattle.bucket.specs.Lists.{elem, Distinct}
+use Rattle.bucket.specs.Lists.{Distinct}
 use Rattle.bucket.proofs.BucketLaws.{⊕-assoc, ⊕-comm, ⊕-left-comm, ⊕-right-comm, ⊕-idl, ⊕-idr, ⊕-cancel, neg-then, is-zero-true}
 use Rattle.filter.specs.declared.answers.Verdict.the-variants.{Complete}
 use Rattle.filter.specs.Lists.{minus}
-use Rattle.filter.specs.Filter.{Item, ours, theirs, ids, oursOf, theirsOf, Rule, put, sumAt, filterOf, difference}
+use Rattle.filter.specs.Filter.{Item, ids, oursOf, theirsOf, Rule, put, sumAt, filterOf, difference}
 use Rattle.filter.specs.Peeling.{allZero, Next, nothing, again, take, Outcome, agrees, verdictBy, remove, next, run, reading, verdict}
-use Rattle.filter.proofs.SelectLaws.{elem-mem}
-use Rattle.filter.proofs.SideLaws.{distinct-ours}
+use Rattle.filter.proofs.SideLaws.{distinct-ours, agrees-ours, agrees-theirs}
 use Rattle.filter.proofs.SumLaws.{filter-append, sum-minus, sum-sides}
 use Rattle.filter.proofs.PeelLaws.{next-take}
 
@@ -32,14 +31,6 @@ all-zero f (suc n) i e h = go (eq-or-lt-of-le (le-of-suc-le-suc h)) (all-zero f 
     go : (i ≡ n) ⊎ (i < n) → (i < n → f i ≡ 𝟎) → f i ≡ 𝟎
     go (inl p) ih = ap f p ∙ is-zero-true (f n) (both .0)
     go (inr p) ih = ih p
-
-agrees-ours : (t : List ℕ) (l : List Item) → agrees t l ≡ true → (a : ℕ) → List·Memᴰ a (oursOf l) → List·Memᴰ a t
-unfolding agrees oursOf
-agrees-ours t [] e a m = elim m [ ]
-agrees-ours t (ours b ∷ l) e a (head h) =
-    subst (λ (c : ℕ). List·Memᴰ c t) (sym h) (elem-mem b t (and-eq-true-iff (elem b t) (agrees t l) .0 e .0))
-agrees-ours t (ours b ∷ l) e a (tail m) = agrees-ours t l (and-eq-true-iff (elem b t) (agrees t l) .0 e .1) a m
-agrees-ours t (theirs b ∷ l) e a m = agrees-ours t l (and-eq-true-iff (not (elem b t)) (agrees t l) .0 e .1) a m
 
 pub verdict-complete : (a b c : Bool) → verdictBy a b c ≡ Complete → (a ≡ true) × (b ≡ true) × (c ≡ true)
 verdict-complete false z t e = (cc, cc, cc)
@@ -88,40 +79,47 @@ module _ (R : Rule) where
   unfolding reading
   reading-distinct f = run-distinct (R .size) (next R [] f) [] f refl tt
 
-  -- ---- demand 3, first half
+  -- ---- demand 3, first half: a complete reading
 
-  pub sound : (t : List ℕ) (g : ℕ → Bucket) → Distinct t → verdict R t (reading R (difference R t g)) ≡ Complete
-      → (i : ℕ) → i < R .size
-      → let l = reading R (difference R t g) .listed in g i ≡ filterOf R (minus t (oursOf l) ++ theirsOf l) i
-  sound t g d v i h = ⊕-cancel (filterOf R (oursOf l) i) (g i) (filterOf R (minus t (oursOf l) ++ theirsOf l) i) chain
-    where
-      f : ℕ → Bucket
-      f = difference R t g
+  module _ (t : List ℕ) (g : ℕ → Bucket) (v : verdict R t (reading R (difference R t g)) ≡ Complete) where
+    tests : let r = reading R (difference R t g) in (r .fine ≡ true) × (allZero (r .rest) (R .size) ≡ true) × (agrees t (r .listed) ≡ true)
+    unfolding verdict
+    tests = let r = reading R (difference R t g) in verdict-complete (r .fine) (allZero (r .rest) (R .size)) (agrees t (r .listed)) v
 
-      r : Outcome
-      r = reading R f
+    pub sound-ours : (a : ℕ) → List·Memᴰ a (oursOf (reading R (difference R t g) .listed)) → List·Memᴰ a t
+    sound-ours = agrees-ours t (reading R (difference R t g) .listed) (tests .2)
 
-      l : List Item
-      l = r .listed
+    pub sound-theirs : (a : ℕ) → List·Memᴰ a (theirsOf (reading R (difference R t g) .listed)) → List·Memᴰ a t → ⊥
+    sound-theirs = agrees-theirs t (reading R (difference R t g) .listed) (tests .2)
 
-      tests : (r .fine ≡ true) × (allZero (r .rest) (R .size) ≡ true) × (agrees t l ≡ true)
-      tests = unfold verdict in verdict-complete (r .fine) (allZero (r .rest) (R .size)) (agrees t l) v
+    pub sound : Distinct t → (i : ℕ) → i < R .size
+        → let l = reading R (difference R t g) .listed in g i ≡ filterOf R (minus t (oursOf l) ++ theirsOf l) i
+    sound d i h = ⊕-cancel (filterOf R (oursOf l) i) (g i) (filterOf R (minus t (oursOf l) ++ theirsOf l) i) chain
+      where
+        f : ℕ → Bucket
+        f = difference R t g
 
-      -- nothing remains, so the listed items make up the difference
-      listed-sum : sumAt R l i ≡ f i
-      listed-sum =
-          sym (⊕-idr (sumAt R l i))
-          ∙ ap (λ (b : Bucket). sumAt R l i ⊕ b) (sym (all-zero (r .rest) (R .size) i (tests .1) h))
-          ∙ reading-sum f i
+        r : Outcome
+        r = reading R f
 
-      plus : sumAt R l i ⊕ g i ≡ filterOf R t i
-      plus = ap (λ (b : Bucket). b ⊕ g i) listed-sum ∙ (unfold difference in neg-then (filterOf R t i) (g i))
+        l : List Item
+        l = r .listed
 
-      chain : filterOf R (oursOf l) i ⊕ g i ≡ filterOf R (oursOf l) i ⊕ filterOf R (minus t (oursOf l) ++ theirsOf l) i
-      chain =
-          ap (λ (b : Bucket). b ⊕ g i) (sym (sum-sides R l i))
-          ∙ ⊕-right-comm (sumAt R l i) (filterOf R (theirsOf l) i) (g i)
-          ∙ ap (λ (b : Bucket). b ⊕ filterOf R (theirsOf l) i)
-          (plus ∙ sum-minus R t (oursOf l) i d (distinct-ours l (reading-distinct f)) (agrees-ours t l (tests .2)))
-          ∙ ⊕-assoc (filterOf R (oursOf l) i) (filterOf R (minus t (oursOf l)) i) (filterOf R (theirsOf l) i)
-          ∙ ap (λ (b : Bucket). filterOf R (oursOf l) i ⊕ b) (sym (filter-append R (minus t (oursOf l)) (theirsOf l) i))
+        -- nothing remains, so the listed items make up the difference
+        listed-sum : sumAt R l i ≡ f i
+        listed-sum =
+            sym (⊕-idr (sumAt R l i))
+            ∙ ap (λ (b : Bucket). sumAt R l i ⊕ b) (sym (all-zero (r .rest) (R .size) i (tests .1) h))
+            ∙ reading-sum f i
+
+        plus : sumAt R l i ⊕ g i ≡ filterOf R t i
+        plus = ap (λ (b : Bucket). b ⊕ g i) listed-sum ∙ (unfold difference in neg-then (filterOf R t i) (g i))
+
+        chain : filterOf R (oursOf l) i ⊕ g i ≡ filterOf R (oursOf l) i ⊕ filterOf R (minus t (oursOf l) ++ theirsOf l) i
+        chain =
+            ap (λ (b : Bucket). b ⊕ g i) (sym (sum-sides R l i))
+            ∙ ⊕-right-comm (sumAt R l i) (filterOf R (theirsOf l) i) (g i)
+            ∙ ap (λ (b : Bucket). b ⊕ filterOf R (theirsOf l) i)
+            (plus ∙ sum-minus R t (oursOf l) i d (distinct-ours l (reading-distinct f)) sound-ours)
+            ∙ ⊕-assoc (filterOf R (oursOf l) i) (filterOf R (minus t (oursOf l)) i) (filterOf R (theirsOf l) i)
+            ∙ ap (λ (b : Bucket). filterOf R (oursOf l) i ⊕ b) (sym (filter-append R (minus t (oursOf l)) (theirsOf l) i))

@@ -60,10 +60,14 @@ pub record Outcome : Type 0 where
 abbrev pub ended : Bool → List Item → (ℕ → Bucket) → Outcome
 ended t acc f = record { fine = t; listed = acc; rest = f }
 
+-- an item agrees with the table: otherwise "an ID listed as ours is not in our table or one listed as theirs is"
+abbrev pub onSide : List ℕ → Item → Bool
+onSide t (ours a) = elem a t
+onSide t (theirs a) = not (elem a t)
+
 unfoldable pub agrees : List ℕ → List Item → Bool
 agrees t [] = true
-agrees t (ours a ∷ l) = elem a t && agrees t l
-agrees t (theirs a ∷ l) = not (elem a t) && agrees t l
+agrees t (x ∷ l) = onSide t x && agrees t l
 
 -- not in order: false; something is not zero: stuck; the table's test, "judged once the columns are zero"
 abbrev pub verdictBy : Bool → Bool → Bool → Verdict
