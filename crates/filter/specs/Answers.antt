@@ -41,8 +41,8 @@ abbrev pub answer : ℕ → ℕ → ℕ → ℕ → ReadAnswer
 answer n whole a b = record { refusal = n; complete = whole; ours = a; theirs = b }
 
 abbrev pub answerOf : Reading → ReadAnswer
-answerOf (Complete a b) = answer 0 1 a b
-answerOf (Stuck a b) = answer 0 0 a b
+answerOf (Complete a b) = answer (refusalNumber None) 1 a b
+answerOf (Stuck a b) = answer (refusalNumber None) 0 a b
 answerOf BadForm = answer (refusalNumber Form) 0 0 0
 answerOf BadRange = answer (refusalNumber Range) 0 0 0
 answerOf NoRoom = answer (refusalNumber Room) 0 0 0
@@ -53,6 +53,6 @@ abbrev pub estimate : ℕ → ℕ → Estimate
 estimate n e = record { refusal = n; estimate = e }
 
 abbrev pub estimateAnswer : Estimation → Estimate
-estimateAnswer (Made e) = estimate 0 e
+estimateAnswer (Made e) = estimate (refusalNumber None) e
 estimateAnswer NotCounts = estimate (refusalNumber Form) 0
 estimateAnswer TooShort = estimate (refusalNumber Room) 0

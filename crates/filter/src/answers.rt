@@ -99,33 +99,23 @@ pub fn numbers(r: Reading) -> ReadAnswer
     ensures { λ n. ⌜ n ≡ answerOf r ⌝ }
 {
     match r {
-        Reading::Complete { ours, theirs } => ReadAnswer {
-            refusal: 0,
-            complete: 1,
-            ours: ours,
-            theirs: theirs,
-        },
-        Reading::Stuck { ours, theirs } => ReadAnswer {
-            refusal: 0,
-            complete: 0,
-            ours: ours,
-            theirs: theirs,
-        },
-        Reading::BadForm => refused(Refusal::Form),
-        Reading::BadRange => refused(Refusal::Range),
-        Reading::NoRoom => refused(Refusal::Room),
-        Reading::Untrue => refused(Refusal::FalseReading),
+        Reading::Complete { ours, theirs } => answer_with(Refusal::None, 1, ours, theirs),
+        Reading::Stuck { ours, theirs } => answer_with(Refusal::None, 0, ours, theirs),
+        Reading::BadForm => answer_with(Refusal::Form, 0, 0, 0),
+        Reading::BadRange => answer_with(Refusal::Range, 0, 0, 0),
+        Reading::NoRoom => answer_with(Refusal::Room, 0, 0, 0),
+        Reading::Untrue => answer_with(Refusal::FalseReading, 0, 0, 0),
     }
 }
 
-fn refused(why: Refusal) -> ReadAnswer
-    ensures { λ n. ⌜ n ≡ answer (refusalNumber why) 0 0 0 ⌝ }
+fn answer_with(why: Refusal, complete: u32, ours: usize, theirs: usize) -> ReadAnswer
+    ensures { λ n. ⌜ n ≡ answer (refusalNumber why) complete ours theirs ⌝ }
 {
     ReadAnswer {
         refusal: refusal_number(why),
-        complete: 0,
-        ours: 0,
-        theirs: 0,
+        complete: complete,
+        ours: ours,
+        theirs: theirs,
     }
 }
 
@@ -133,20 +123,17 @@ pub fn estimate_numbers(e: Estimation) -> Estimate
     ensures { λ n. ⌜ n ≡ estimateAnswer e ⌝ }
 {
     match e {
-        Estimation::Made { estimate } => Estimate {
-            refusal: 0,
-            estimate: estimate,
-        },
-        Estimation::NotCounts => not_estimated(Refusal::Form),
-        Estimation::TooShort => not_estimated(Refusal::Room),
+        Estimation::Made { estimate } => estimate_with(Refusal::None, estimate),
+        Estimation::NotCounts => estimate_with(Refusal::Form, 0),
+        Estimation::TooShort => estimate_with(Refusal::Room, 0),
     }
 }
 
-fn not_estimated(why: Refusal) -> Estimate
-    ensures { λ n. ⌜ n ≡ estimate (refusalNumber why) 0 ⌝ }
+fn estimate_with(why: Refusal, e: u64) -> Estimate
+    ensures { λ n. ⌜ n ≡ estimate (refusalNumber why) e ⌝ }
 {
     Estimate {
         refusal: refusal_number(why),
-        estimate: 0,
+        estimate: e,
     }
 }
