@@ -176,7 +176,7 @@ pub constants :
     × (crc32 (0x31 ∷ 0x32 ∷ 0x33 ∷ 0x34 ∷ 0x35 ∷ 0x36 ∷ 0x37 ∷ 0x38 ∷ 0x39 ∷ []) ≡ 0xCBF43926)
     × (crcOf 0x3132333435363738 ≡ crc32 (0x31 ∷ 0x32 ∷ 0x33 ∷ 0x34 ∷ 0x35 ∷ 0x36 ∷ 0x37 ∷ 0x38 ∷ []))
     -- "Draw i+1 is the CRC-32 of the number draw i × 2^32 + i", "among draws 0 to 63; if there are fewer, the lowest bucket numbers"
-    × ((d : ℕ) → draw crcNext d 1 ≡ crcOf (d * 4294967296 + 0))
+    × ((d : ℕ) → draw crcNext d 2 ≡ crcOf (draw crcNext d 1 * 4294967296 + 1))
     × ((size d : ℕ) → candidate crcNext size d 63 ≡ draw crcNext d 63 % size)
     × ((size d : ℕ) → candidate crcNext size d 64 ≡ 0)
     -- "make up three"

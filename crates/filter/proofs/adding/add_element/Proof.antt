@@ -12,9 +12,6 @@ use Rattle.filter.proofs.LayerLaws.{stratum-low, stratum-fits, element-
 use Rattle.filter.proofs.adding.add_element.Statement.{statement}
 use Rattle.filter.proofs.adding.add_element.Tie as tie
 
-crc-by-requires : tie.Need-crc-by-requires
-crc-by-requires c κs = search needs
-
 start-requires : tie.Need-start-requires
 start-requires c κs = let s = c .before .before .before in (s .pre .1 .most, s .pre .2)
 
@@ -36,35 +33,17 @@ add-e c = omega (arith, low c, c .before .before .before .before .pre .1 .most)
 mul-add-to-places : tie.Need-mul-add-to-places
 mul-add-to-places c = omega (arith, low c)
 
-sub-add-to-places : tie.Need-sub-add-to-places
-sub-add-to-places c = search needs
-
-part-add-to-places-start : tie.Need-part-add-to-places-start
-part-add-to-places-start c = search needs
-
 part-add-to-places-end : tie.Need-part-add-to-places-end
 part-add-to-places-end c = omega (arith, fits c, c .before .before .before .before .pre .3 .idsums)
 
 mul-add-to-places-2 : tie.Need-mul-add-to-places-2
 mul-add-to-places-2 c = omega (arith, low (c .before))
 
-sub-add-to-places-2 : tie.Need-sub-add-to-places-2
-sub-add-to-places-2 c = search needs
-
-part-add-to-places-start-2 : tie.Need-part-add-to-places-start-2
-part-add-to-places-start-2 c = search needs
-
 part-add-to-places-end-2 : tie.Need-part-add-to-places-end-2
 part-add-to-places-end-2 c = omega (arith, fits (c .before), c .before .before .before .before .before .pre .3 .hashsums)
 
 mul-add-to-places-3 : tie.Need-mul-add-to-places-3
 mul-add-to-places-3 c = omega (arith, low (c .before .before))
-
-sub-add-to-places-3 : tie.Need-sub-add-to-places-3
-sub-add-to-places-3 c = search needs
-
-part-add-to-places-start-3 : tie.Need-part-add-to-places-start-3
-part-add-to-places-start-3 c = search needs
 
 part-add-to-places-end-3 : tie.Need-part-add-to-places-end-3
 part-add-to-places-end-3 c = omega (arith, fits (c .before .before), c .before .before .before .before .before .before .pre .3 .counts)
@@ -81,15 +60,6 @@ add-to-places-requires c κs =
       element-small (a .top) (a .size) (t .start .result) c₀ (s .pre .3) (fits t) (2 ^ 60) (s .pre .4),
     )
 
-same-length : tie.Need-same-length
-same-length c = search needs
-
-same-length-2 : tie.Need-same-length-2
-same-length-2 c = search needs
-
-same-length-3 : tie.Need-same-length-3
-same-length-3 c = search needs
-
 returns : tie.Need-returns
 returns c =
     let p = c .before .before .before .before .before .add-to-places in
@@ -105,23 +75,6 @@ pub add-element-spec : {M : Type 1} → statement M
 add-element-spec =
     tie.close
     (tie.spec
-    crc-by-requires
-    start-requires
-    add-e
-    mul-add-to-places
-    sub-add-to-places
-    part-add-to-places-start
-    part-add-to-places-end
-    mul-add-to-places-2
-    sub-add-to-places-2
-    part-add-to-places-start-2
-    part-add-to-places-end-2
-    mul-add-to-places-3
-    sub-add-to-places-3
-    part-add-to-places-start-3
-    part-add-to-places-end-3
-    add-to-places-requires
-    same-length
-    same-length-2
-    same-length-3
-    returns)
+    (λ c κs. search needs) start-requires add-e mul-add-to-places (λ c. search needs) (λ c. search needs) part-add-to-places-end
+    mul-add-to-places-2 (λ c. search needs) (λ c. search needs) part-add-to-places-end-2 mul-add-to-places-3 (λ c. search needs)
+    (λ c. search needs) part-add-to-places-end-3 add-to-places-requires (λ c. search needs) (λ c. search needs) (λ c. search needs) returns)

@@ -31,9 +31,6 @@ Inv-loop tab table ids₀ hashes₀ counts₀ size salt k top n e₀ ids hashes 
 abbrev μ-loop : tie.MeasureT-loop
 μ-loop tab table ids₀ hashes₀ counts₀ size salt k top n e₀ ids hashes counts e = n - e
 
-count-requires : tie.Need-count-requires Inv-loop μ-loop
-count-requires c κs = search needs
-
 counted : (c : tie.After-count Inv-loop μ-loop) → c .count .result ≡ length (idsOf firstEight (c .before .before .before .before .args .table .now))
 counted c =
     let t = c .before .before .before .before .args .table .now in
@@ -44,12 +41,6 @@ loop-holds c =
     let s = c .before .before .before .before in
     let a = s .args in
     gathered-start (layered (a .top) (a .k) (a .size) (a .salt)) (idsOf firstEight (a .table .now)) (columns (a .ids .now) (a .hashes .now) (a .counts .now)) (s .pre .5)
-
-element-id-requires : tie.Need-element-id-requires Inv-loop μ-loop
-element-id-requires c κs = search needs
-
-salt-requires : tie.Need-salt-requires Inv-loop μ-loop
-salt-requires c κs = search needs
 
 add-element-requires : tie.Need-add-element-requires Inv-loop μ-loop
 add-element-requires c κs =
@@ -67,12 +58,6 @@ add-element-requires c κs =
       gathered-small (layered (a .top) (a .k) (a .size) (a .salt)) (idsOf firstEight t) c₀ c₁ (w .e) (s .pre .4) (w .inv)
           (omega (arith, s .pre .3, ids-length firstEight t)),
     )
-
-add-e : tie.Need-add-e Inv-loop μ-loop
-add-e c = search needs
-
-loop-less : tie.Need-loop-less Inv-loop μ-loop
-loop-less c = search needs
 
 loop-again : tie.Need-loop-again Inv-loop μ-loop
 loop-again c =
@@ -111,17 +96,5 @@ pub add-table-spec : {M : Type 1} → statement M
 add-table-spec =
     tie.close
     (tie.spec
-    Inv-loop
-    μ-loop
-    count-requires
-    loop-holds
-    element-id-requires
-    salt-requires
-    add-element-requires
-    add-e
-    loop-less
-    loop-again
-    same-length
-    same-length-2
-    same-length-3
-    returns)
+    Inv-loop μ-loop (λ c κs. search needs) loop-holds (λ c κs. search needs) (λ c κs. search needs) add-element-requires (λ c. search needs)
+    (λ c. search needs) loop-again same-length same-length-2 same-length-3 returns)

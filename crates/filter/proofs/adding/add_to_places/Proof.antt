@@ -21,9 +21,6 @@ Inv-loop tab ids₀ hashes₀ counts₀ x h size k p j₀ ids hashes counts j =
 abbrev μ-loop : tie.MeasureT-loop
 μ-loop tab ids₀ hashes₀ counts₀ x h size k p j₀ ids hashes counts j = k - j
 
-places-requires : tie.Need-places-requires Inv-loop μ-loop
-places-requires c κs = search needs
-
 given : (c : tie.After-places Inv-loop μ-loop) → let a = c .before .before .before .args in c .places .result ≡ pad 4 (places (a .k) (a .size) (a .h))
 given c =
     let s = c .before .before .before in
@@ -36,15 +33,6 @@ loop-holds c =
     let a = s .args in
     added-start (a .k) (a .size) (a .h) (bucket (a .x) (a .h) (pos 1)) (columns (a .ids .now) (a .hashes .now) (a .counts .now)) (s .pre .3)
 
-mul-b : tie.Need-mul-b Inv-loop μ-loop
-mul-b c = search needs
-
-array-read-b : tie.Need-array-read-b Inv-loop μ-loop
-array-read-b c = search needs
-
-cast-b : tie.Need-cast-b Inv-loop μ-loop
-cast-b c = search needs
-
 put-at-requires : tie.Need-put-at-requires Inv-loop μ-loop
 put-at-requires c κs =
     let l = c .before .before .before in
@@ -54,12 +42,6 @@ put-at-requires c κs =
     added-open (a .k) (a .size) (a .h) (bucket (a .x) (a .h) (pos 1))
     (columns (a .ids .now) (a .hashes .now) (a .counts .now)) (columns (w .ids) (w .hashes) (w .counts)) (w .j)
     (s .pre .1) (s .pre .2) (w .inv) (l .before .before .places .result) (omega arith) (given (l .before .before)) (l .loop-test .taken)
-
-add-j : tie.Need-add-j Inv-loop μ-loop
-add-j c = search needs
-
-loop-less : tie.Need-loop-less Inv-loop μ-loop
-loop-less c = search needs
 
 loop-again : tie.Need-loop-again Inv-loop μ-loop
 loop-again c =
@@ -95,18 +77,5 @@ pub add-to-places-spec : {M : Type 1} → statement M
 add-to-places-spec =
     tie.close
     (tie.spec
-    Inv-loop
-    μ-loop
-    places-requires
-    loop-holds
-    mul-b
-    array-read-b
-    cast-b
-    put-at-requires
-    add-j
-    loop-less
-    loop-again
-    same-length
-    same-length-2
-    same-length-3
-    returns)
+    Inv-loop μ-loop (λ c κs. search needs) loop-holds (λ c. search needs) (λ c. search needs) (λ c. search needs) put-at-requires
+    (λ c. search needs) (λ c. search needs) loop-again same-length same-length-2 same-length-3 returns)

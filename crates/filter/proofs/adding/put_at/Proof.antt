@@ -59,15 +59,6 @@ mul-t13 c = let h = inside (c .before .before .before) in omega arith
 slice-set-from-counts : tie.Need-slice-set-from-counts
 slice-set-from-counts c = let h = inside (c .before .before .before) in omega arith
 
-same-length : tie.Need-same-length
-same-length c = search needs
-
-same-length-2 : tie.Need-same-length-2
-same-length-2 c = search needs
-
-same-length-3 : tie.Need-same-length-3
-same-length-3 c = search needs
-
 returns : tie.Need-returns
 unfolding place view _⊕_
 returns c =
@@ -79,20 +70,5 @@ pub put-at-spec : {M : Type 1} → statement M
 put-at-spec =
     tie.close
     (tie.spec
-    mul-ids
-    slice-read-ids
-    mul-ids-2
-    slice-write-ids
-    mul-hashes
-    slice-read-hashes
-    mul-hashes-2
-    slice-write-hashes
-    mul-c
-    slice-copy-out-c
-    add-counts
-    mul-t13
-    slice-set-from-counts
-    same-length
-    same-length-2
-    same-length-3
-    returns)
+    mul-ids slice-read-ids mul-ids-2 slice-write-ids mul-hashes slice-read-hashes mul-hashes-2 slice-write-hashes mul-c slice-copy-out-c
+    add-counts mul-t13 slice-set-from-counts (λ c. search needs) (λ c. search needs) (λ c. search needs) returns)

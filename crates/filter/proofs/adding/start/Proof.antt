@@ -8,12 +8,6 @@ use Rattle.bucket.specs.Counts.{stratumOf}
 use Rattle.filter.proofs.adding.start.Statement.{statement}
 use Rattle.filter.proofs.adding.start.Tie as tie
 
-stratum-requires : tie.Need-stratum-requires
-stratum-requires c κs = search needs
-
-cast-result : tie.Need-cast-result
-cast-result c = search needs
-
 mul-result : tie.Need-mul-result
 mul-result c =
     let s = c .before .before in
@@ -36,4 +30,4 @@ returns-2 c =
     (let e = c .before .stratum .ensures in let l = c .if1 .left in omega arith)
 
 pub start-spec : {M : Type 1} → statement M
-start-spec = tie.close (tie.spec stratum-requires cast-result mul-result returns mul-result-2 returns-2)
+start-spec = tie.close (tie.spec (λ c κs. search needs) (λ c. search needs) mul-result returns mul-result-2 returns-2)

@@ -7,31 +7,13 @@ use borrow.Author.Needs.{needs}
 use Rattle.filter.proofs.building.build.Statement.{statement}
 use Rattle.filter.proofs.building.build.Tie as tie
 
-is-table-requires : tie.Need-is-table-requires
-is-table-requires c κs = search needs
-
 returns : tie.Need-returns
 unfolding buildCall buildRefusal
 returns c = rw (test-refused (c .before .is-table .ensures) (c .if1 .taken))
 
-in-range-requires : tie.Need-in-range-requires
-in-range-requires c κs = search needs
-
 returns-2 : tie.Need-returns-2
 unfolding buildCall buildRefusal
 returns-2 c = rw (test-granted (c .before .before .before .is-table .ensures) (c .before .before .if1 .left), test-refused (c .before .in-range .ensures) (c .if2 .taken))
-
-has-room-requires : tie.Need-has-room-requires
-has-room-requires c κs = search needs
-
-same-length : tie.Need-same-length
-same-length c = search needs
-
-same-length-2 : tie.Need-same-length-2
-same-length-2 c = search needs
-
-same-length-3 : tie.Need-same-length-3
-same-length-3 c = search needs
 
 returns-3 : tie.Need-returns-3
 unfolding buildCall buildRefusal
@@ -42,9 +24,6 @@ returns-3 c =
       test-refused (c .before .has-room .ensures) (c .if3 .taken),
     )
 
-tables-requires : tie.Need-tables-requires
-tables-requires c κs = search needs
-
 fill-requires : tie.Need-fill-requires
 fill-requires c κs = (
   c .before .before .before .before .tables .ensures,
@@ -52,15 +31,6 @@ fill-requires c κs = (
   test-granted (c .before .before .before .before .before .before .before .before .before .before .before .in-range .ensures) (c .before .before .before .before .before .before .before .before .before .before .if2 .left),
   test-granted (c .before .before .before .before .before .before .has-room .ensures) (c .before .before .before .before .before .if3 .left),
 )
-
-same-length-4 : tie.Need-same-length-4
-same-length-4 c = search needs
-
-same-length-5 : tie.Need-same-length-5
-same-length-5 c = search needs
-
-same-length-6 : tie.Need-same-length-6
-same-length-6 c = search needs
 
 returns-4 : tie.Need-returns-4
 unfolding buildCall buildRefusal
@@ -75,18 +45,5 @@ pub build-spec : {M : Type 1} → statement M
 build-spec =
     tie.close
     (tie.spec
-    is-table-requires
-    returns
-    in-range-requires
-    returns-2
-    has-room-requires
-    same-length
-    same-length-2
-    same-length-3
-    returns-3
-    tables-requires
-    fill-requires
-    same-length-4
-    same-length-5
-    same-length-6
-    returns-4)
+    (λ c κs. search needs) returns (λ c κs. search needs) returns-2 (λ c κs. search needs) (λ c. search needs) (λ c. search needs)
+    (λ c. search needs) returns-3 (λ c κs. search needs) fill-requires (λ c. search needs) (λ c. search needs) (λ c. search needs) returns-4)

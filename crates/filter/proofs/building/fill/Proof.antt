@@ -20,9 +20,6 @@ use Rattle.filter.proofs.building.fill.Tie as tie
 clear-columns-requires : tie.Need-clear-columns-requires
 clear-columns-requires c κs = wide-of _ _ (c .before .before .before .before .before .before .pre .3)
 
-place-count-requires : tie.Need-place-count-requires
-place-count-requires c κs = search needs
-
 add-table-requires : tie.Need-add-table-requires
 add-table-requires c κs =
     let s = c .before .before .before .before .before .before .before .before .before .before .before .before .before .before .before .before in
@@ -36,15 +33,6 @@ add-table-requires c κs =
       one-small (s .args .size) (2 ^ 33) _ (subst (Small (s .args .size) (2 ^ 33)) (sym e) (small-cleared (s .args .size) (columns (now (s .args .ids)) (now (s .args .hashes)) (now (s .args .counts))) w)),
     )
 
-same-length : tie.Need-same-length
-same-length c = search needs
-
-same-length-2 : tie.Need-same-length-2
-same-length-2 c = search needs
-
-same-length-3 : tie.Need-same-length-3
-same-length-3 c = search needs
-
 returns : tie.Need-returns
 returns c =
     let s = c .before .before .before .before .before .before .before .before .before .before .before .before .before .before .before .before .before .before .before .before .before .before in
@@ -57,10 +45,4 @@ pub fill-spec : {M : Type 1} → statement M
 fill-spec =
     tie.close
     (tie.spec
-    clear-columns-requires
-    place-count-requires
-    add-table-requires
-    same-length
-    same-length-2
-    same-length-3
-    returns)
+    clear-columns-requires (λ c κs. search needs) add-table-requires (λ c. search needs) (λ c. search needs) (λ c. search needs) returns)

@@ -52,12 +52,6 @@ mul-counts c = let w = inside (c .before) in omega arith
 slice-set-of-counts : tie.Need-slice-set-of-counts Inv-loop μ-loop
 slice-set-of-counts c = let w = inside (c .before) in omega arith
 
-add-i : tie.Need-add-i Inv-loop μ-loop
-add-i c = search needs
-
-loop-less : tie.Need-loop-less Inv-loop μ-loop
-loop-less c = search needs
-
 loop-again : tie.Need-loop-again Inv-loop μ-loop
 unfolding place 𝟎
 loop-again c =
@@ -88,19 +82,5 @@ pub clear-columns-spec : {M : Type 1} → statement M
 clear-columns-spec =
     tie.close
     (tie.spec
-    Inv-loop
-    μ-loop
-    loop-holds
-    mul-ids
-    slice-write-ids
-    mul-hashes
-    slice-write-hashes
-    mul-counts
-    slice-set-of-counts
-    add-i
-    loop-less
-    loop-again
-    same-length
-    same-length-2
-    same-length-3
-    returns)
+    Inv-loop μ-loop loop-holds mul-ids slice-write-ids mul-hashes slice-write-hashes mul-counts slice-set-of-counts (λ c. search needs)
+    (λ c. search needs) loop-again same-length same-length-2 same-length-3 returns)

@@ -27,12 +27,6 @@ mul-xs c = omega (arith, c .before .loop .inv .1 .same)
 slice-write-xs : tie.Need-slice-write-xs Inv-loop μ-loop
 slice-write-xs c = omega (arith, c .before .loop .inv .1 .same)
 
-add-i : tie.Need-add-i Inv-loop μ-loop
-add-i c = search needs
-
-loop-less : tie.Need-loop-less Inv-loop μ-loop
-loop-less c = search needs
-
 loop-again : tie.Need-loop-again Inv-loop μ-loop
 loop-again c =
     let i = c .before .loop .i in (
@@ -55,13 +49,4 @@ pub clear-list-spec : {M : Type 1} → statement M
 clear-list-spec =
     tie.close
     (tie.spec
-    Inv-loop
-    μ-loop
-    loop-holds
-    mul-xs
-    slice-write-xs
-    add-i
-    loop-less
-    loop-again
-    same-length
-    returns)
+    Inv-loop μ-loop loop-holds mul-xs slice-write-xs (λ c. search needs) (λ c. search needs) loop-again same-length returns)

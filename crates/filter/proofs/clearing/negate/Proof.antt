@@ -46,12 +46,6 @@ slice-set-from-counts c =
     let s = c .before .before .before in
     omega (arith, turned-length (s .args .n) (s .args .counts .now) (w .counts) (w .i) (w .inv), s .pre .0)
 
-add-i : tie.Need-add-i Inv-loop μ-loop
-add-i c = search needs
-
-loop-less : tie.Need-loop-less Inv-loop μ-loop
-loop-less c = search needs
-
 loop-again : tie.Need-loop-again Inv-loop μ-loop
 loop-again c =
     let w = c .before .before .loop in
@@ -74,16 +68,5 @@ pub negate-spec : {M : Type 1} → statement M
 negate-spec =
     tie.close
     (tie.spec
-    Inv-loop
-    μ-loop
-    loop-holds
-    mul-c
-    slice-copy-out-c
-    sub-counts
-    mul-t6
-    slice-set-from-counts
-    add-i
-    loop-less
-    loop-again
-    same-length
-    returns)
+    Inv-loop μ-loop loop-holds mul-c slice-copy-out-c sub-counts mul-t6 slice-set-from-counts (λ c. search needs) (λ c. search needs)
+    loop-again same-length returns)

@@ -8,24 +8,9 @@ use borrow.Author.Needs.{needs}
 use Rattle.filter.proofs.estimator.build.Statement.{statement}
 use Rattle.filter.proofs.estimator.build.Tie as tie
 
-is-table-requires : tie.Need-is-table-requires
-is-table-requires c κs = search needs
-
 returns : tie.Need-returns
 unfolding estimatorCall estimatorRefusal
 returns c = rw (test-refused (c .before .is-table .ensures) (c .if1 .taken))
-
-has-room-requires : tie.Need-has-room-requires
-has-room-requires c κs = search needs
-
-same-length : tie.Need-same-length
-same-length c = search needs
-
-same-length-2 : tie.Need-same-length-2
-same-length-2 c = search needs
-
-same-length-3 : tie.Need-same-length-3
-same-length-3 c = search needs
 
 returns-2 : tie.Need-returns-2
 unfolding estimatorCall estimatorRefusal
@@ -41,15 +26,6 @@ fill-requires c κs = (
   test-granted (c .before .before .before .before .has-room .ensures) (c .before .before .before .if2 .left),
 )
 
-same-length-4 : tie.Need-same-length-4
-same-length-4 c = search needs
-
-same-length-5 : tie.Need-same-length-5
-same-length-5 c = search needs
-
-same-length-6 : tie.Need-same-length-6
-same-length-6 c = search needs
-
 returns-3 : tie.Need-returns-3
 unfolding estimatorCall estimatorRefusal
 returns-3 c =
@@ -62,15 +38,5 @@ pub build-spec : {M : Type 1} → statement M
 build-spec =
     tie.close
     (tie.spec
-    is-table-requires
-    returns
-    has-room-requires
-    same-length
-    same-length-2
-    same-length-3
-    returns-2
-    fill-requires
-    same-length-4
-    same-length-5
-    same-length-6
-    returns-3)
+    (λ c κs. search needs) returns (λ c κs. search needs) (λ c. search needs) (λ c. search needs) (λ c. search needs) returns-2
+    fill-requires (λ c. search needs) (λ c. search needs) (λ c. search needs) returns-3)

@@ -26,27 +26,9 @@ counted c = test-granted (c .before .before .before .before .before .before .are
 roomy : (c : tie.Else2) → hasRoom 2528 (first c) && hasRoom 2528 (second c) ≡ true
 roomy c = test-granted (c .before .have-room .ensures) (c .if2 .left)
 
-are-counts-requires : tie.Need-are-counts-requires
-are-counts-requires c κs = search needs
-
-same-length : tie.Need-same-length
-same-length c = search needs
-
 returns : tie.Need-returns
 unfolding estimateCall estimateRefusal
 returns c = rw (test-refused (c .before .are-counts .ensures) (c .if1 .taken))
-
-have-room-requires : tie.Need-have-room-requires
-have-room-requires c κs = search needs
-
-same-length-2 : tie.Need-same-length-2
-same-length-2 c = search needs
-
-same-length-3 : tie.Need-same-length-3
-same-length-3 c = search needs
-
-same-length-4 : tie.Need-same-length-4
-same-length-4 c = search needs
 
 returns-2 : tie.Need-returns-2
 unfolding estimateCall estimateRefusal
@@ -59,9 +41,6 @@ returns-2 c =
 subtract-requires : tie.Need-subtract-requires
 subtract-requires c κs = let t = c .before .before .before in estimate-ready (first t) (second t) (counted t) (roomy t)
 
-tables-requires : tie.Need-tables-requires
-tables-requires c κs = search needs
-
 read-all-requires : tie.Need-read-all-requires
 read-all-requires c κs =
     let d = c .before .before .before .before .before .before .before .before .before .before in
@@ -72,15 +51,6 @@ read-all-requires c κs =
       less-wide (first t) (second t) (counted t) (roomy t) e,
       less-small (first t) (second t) (counted t) (roomy t) e,
     )
-
-same-length-5 : tie.Need-same-length-5
-same-length-5 c = search needs
-
-same-length-6 : tie.Need-same-length-6
-same-length-6 c = search needs
-
-same-length-7 : tie.Need-same-length-7
-same-length-7 c = search needs
 
 returns-3 : tie.Need-returns-3
 returns-3 c =
@@ -93,18 +63,6 @@ pub estimate-spec : {M : Type 1} → statement M
 estimate-spec =
     tie.close
     (tie.spec
-    are-counts-requires
-    same-length
-    returns
-    have-room-requires
-    same-length-2
-    same-length-3
-    same-length-4
-    returns-2
-    subtract-requires
-    tables-requires
-    read-all-requires
-    same-length-5
-    same-length-6
-    same-length-7
+    (λ c κs. search needs) (λ c. search needs) returns (λ c κs. search needs) (λ c. search needs) (λ c. search needs) (λ c. search needs)
+    returns-2 subtract-requires (λ c κs. search needs) read-all-requires (λ c. search needs) (λ c. search needs) (λ c. search needs)
     returns-3)

@@ -17,9 +17,6 @@ use borrow.Author.Needs.{needs}
 use Rattle.filter.proofs.estimator.fill.Statement.{statement}
 use Rattle.filter.proofs.estimator.fill.Tie as tie
 
-tables-requires : tie.Need-tables-requires
-tables-requires c κs = search needs
-
 clear-columns-requires : tie.Need-clear-columns-requires
 clear-columns-requires c κs = wide-of _ _ (c .before .before .before .before .before .before .before .pre .1)
 
@@ -37,15 +34,6 @@ add-table-requires c κs =
       subst (Small 2528 (2 ^ 33)) (sym e) (small-cleared 2528 c₀ w),
     )
 
-same-length : tie.Need-same-length
-same-length c = search needs
-
-same-length-2 : tie.Need-same-length-2
-same-length-2 c = search needs
-
-same-length-3 : tie.Need-same-length-3
-same-length-3 c = search needs
-
 returns : tie.Need-returns
 returns c =
     let s = c .before .before .before .before .before .before .before .before .before .before .before .before .before .before .before .before .before .before .before .before .before .before .before in
@@ -57,10 +45,4 @@ pub fill-spec : {M : Type 1} → statement M
 fill-spec =
     tie.close
     (tie.spec
-    tables-requires
-    clear-columns-requires
-    add-table-requires
-    same-length
-    same-length-2
-    same-length-3
-    returns)
+    (λ c κs. search needs) clear-columns-requires add-table-requires (λ c. search needs) (λ c. search needs) (λ c. search needs) returns)

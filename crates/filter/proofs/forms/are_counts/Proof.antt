@@ -19,26 +19,8 @@ Inv-loop counts size n good₀ i₀ good i = Tested size counts good i
 abbrev μ-loop : tie.MeasureT-loop
 μ-loop counts size n good₀ i₀ good i = n - i
 
-least-requires : tie.Need-least-requires Inv-loop μ-loop
-least-requires c κs = search needs
-
 loop-holds : tie.Need-loop-holds Inv-loop μ-loop
 loop-holds c = tested-start (c .before .args .size) (c .before .args .counts .now)
-
-mul-is-count : tie.Need-mul-is-count Inv-loop μ-loop
-mul-is-count c = search needs
-
-shared-slice-copy-out-is-count : tie.Need-shared-slice-copy-out-is-count Inv-loop μ-loop
-shared-slice-copy-out-is-count c = search needs
-
-is-count-requires : tie.Need-is-count-requires Inv-loop μ-loop
-is-count-requires c κs = search needs
-
-add-i : tie.Need-add-i Inv-loop μ-loop
-add-i c = search needs
-
-loop-less : tie.Need-loop-less Inv-loop μ-loop
-loop-less c = search needs
 
 loop-again : tie.Need-loop-again Inv-loop μ-loop
 loop-again c =
@@ -59,14 +41,5 @@ pub are-counts-spec : {M : Type 1} → statement M
 are-counts-spec =
     tie.close
     (tie.spec
-    Inv-loop
-    μ-loop
-    least-requires
-    loop-holds
-    mul-is-count
-    shared-slice-copy-out-is-count
-    is-count-requires
-    add-i
-    loop-less
-    loop-again
-    returns)
+    Inv-loop μ-loop (λ c κs. search needs) loop-holds (λ c. search needs) (λ c. search needs) (λ c κs. search needs) (λ c. search needs)
+    (λ c. search needs) loop-again returns)

@@ -21,26 +21,11 @@ abbrev μ-loop : tie.MeasureT-loop
 loop-holds : tie.Need-loop-holds Inv-loop μ-loop
 loop-holds c = agreed-start _ _ _ _
 
-mul-is-held : tie.Need-mul-is-held Inv-loop μ-loop
-mul-is-held c = search needs
-
-shared-slice-read-is-held : tie.Need-shared-slice-read-is-held Inv-loop μ-loop
-shared-slice-read-is-held c = search needs
-
-is-held-requires : tie.Need-is-held-requires Inv-loop μ-loop
-is-held-requires c κs = search needs
-
 returns : tie.Need-returns Inv-loop μ-loop
 returns c =
     let s = c .before .before .before .before .before .before .before .before in
     let at = c .before .before .before .before .loop in
     sym (agreed-not (s .pre .1) (at .inv) (omega arith) (agree-other (c .before .is-held .result) (s .args .want) (c .before .is-held .ensures ∙ held-id (now (s .args .table)) (s .pre .0) (getD (now (s .args .list)) (at .i) 0)) (c .if1 .taken)))
-
-add-i : tie.Need-add-i Inv-loop μ-loop
-add-i c = search needs
-
-loop-less : tie.Need-loop-less Inv-loop μ-loop
-loop-less c = search needs
 
 loop-again : tie.Need-loop-again Inv-loop μ-loop
 loop-again c =
@@ -55,14 +40,5 @@ pub all-held-spec : {M : Type 1} → statement M
 all-held-spec =
     tie.close
     (tie.spec
-    Inv-loop
-    μ-loop
-    loop-holds
-    mul-is-held
-    shared-slice-read-is-held
-    is-held-requires
-    returns
-    add-i
-    loop-less
-    loop-again
-    returns-2)
+    Inv-loop μ-loop loop-holds (λ c. search needs) (λ c. search needs) (λ c κs. search needs) returns (λ c. search needs)
+    (λ c. search needs) loop-again returns-2)

@@ -23,30 +23,6 @@ abbrev μ-loop : tie.MeasureT-loop
 loop-holds : tie.Need-loop-holds Inv-loop μ-loop
 loop-holds c = zeros-start _ _
 
-sub-i : tie.Need-sub-i Inv-loop μ-loop
-sub-i c = search needs
-
-mul-is-zero : tie.Need-mul-is-zero Inv-loop μ-loop
-mul-is-zero c = search needs
-
-shared-slice-read-is-zero : tie.Need-shared-slice-read-is-zero Inv-loop μ-loop
-shared-slice-read-is-zero c = search needs
-
-mul-is-zero-2 : tie.Need-mul-is-zero-2 Inv-loop μ-loop
-mul-is-zero-2 c = search needs
-
-shared-slice-read-is-zero-2 : tie.Need-shared-slice-read-is-zero-2 Inv-loop μ-loop
-shared-slice-read-is-zero-2 c = search needs
-
-mul-is-zero-3 : tie.Need-mul-is-zero-3 Inv-loop μ-loop
-mul-is-zero-3 c = search needs
-
-shared-slice-copy-out-is-zero : tie.Need-shared-slice-copy-out-is-zero Inv-loop μ-loop
-shared-slice-copy-out-is-zero c = search needs
-
-is-zero-requires : tie.Need-is-zero-requires Inv-loop μ-loop
-is-zero-requires c κs = search needs
-
 returns : tie.Need-returns Inv-loop μ-loop
 unfolding view
 returns c =
@@ -54,9 +30,6 @@ returns c =
     let at = c .before .before .before .before .before .before .loop in
     let e = rw (toZ-ofZ w64 (getD (now (s .args .counts)) (at .i - 1) (pos 0)) (sfits-of (c .before .before .is-zero-arg .given))) at (c .before .is-zero .ensures) in
     sym (zeros-not (at .inv) (at .i - 1) (omega arith) (test-refused e (c .if1 .taken)))
-
-loop-less : tie.Need-loop-less Inv-loop μ-loop
-loop-less c = search needs
 
 loop-again : tie.Need-loop-again Inv-loop μ-loop
 unfolding view
@@ -73,18 +46,5 @@ pub all-zero-spec : {M : Type 1} → statement M
 all-zero-spec =
     tie.close
     (tie.spec
-    Inv-loop
-    μ-loop
-    loop-holds
-    sub-i
-    mul-is-zero
-    shared-slice-read-is-zero
-    mul-is-zero-2
-    shared-slice-read-is-zero-2
-    mul-is-zero-3
-    shared-slice-copy-out-is-zero
-    is-zero-requires
-    returns
-    loop-less
-    loop-again
-    returns-2)
+    Inv-loop μ-loop loop-holds (λ c. search needs) (λ c. search needs) (λ c. search needs) (λ c. search needs) (λ c. search needs)
+    (λ c. search needs) (λ c. search needs) (λ c κs. search needs) returns (λ c. search needs) loop-again returns-2)

@@ -8,14 +8,8 @@ use Rattle.filter.proofs.judging.judge.Tie as tie
 returns : tie.Need-returns
 returns c = rw (not-fine (c .before .before .before .before .before .before .args .fine) (c .if1 .taken))
 
-all-zero-requires : tie.Need-all-zero-requires
-all-zero-requires c κs = search needs
-
 returns-2 : tie.Need-returns-2
 returns-2 c = rw (is-fine (c .before .before .before .before .before .before .before .before .args .fine) (c .before .before .if1 .left), test-refused (c .before .all-zero .ensures) (c .if2 .taken))
-
-lists-agree-requires : tie.Need-lists-agree-requires
-lists-agree-requires c κs = search needs
 
 returns-3 : tie.Need-returns-3
 returns-3 c =
@@ -34,5 +28,4 @@ returns-4 c =
     )
 
 pub judge-spec : {M : Type 1} → statement M
-judge-spec =
-    tie.close (tie.spec returns all-zero-requires returns-2 lists-agree-requires returns-3 returns-4)
+judge-spec = tie.close (tie.spec returns (λ c κs. search needs) returns-2 (λ c κs. search needs) returns-3 returns-4)

@@ -4,17 +4,11 @@ use Rattle.bucket.proofs.TestLaws.{test-refused, test-granted}
 use Rattle.filter.proofs.judging.lists_agree_by.Statement.{statement}
 use Rattle.filter.proofs.judging.lists_agree_by.Tie as tie
 
-all-held-requires : tie.Need-all-held-requires
-all-held-requires c κs = search needs
-
 returns : tie.Need-returns
 returns c = rw (test-refused (c .before .all-held .ensures) (c .if1 .taken))
-
-all-held-requires-2 : tie.Need-all-held-requires-2
-all-held-requires-2 c κs = search needs
 
 returns-2 : tie.Need-returns-2
 returns-2 c = rw (test-granted (c .before .before .all-held .ensures) (c .before .if1 .left)) (c .all-held2 .ensures)
 
 pub lists-agree-by-spec : {M : Type 1} → statement M
-lists-agree-by-spec = tie.close (tie.spec all-held-requires returns all-held-requires-2 returns-2)
+lists-agree-by-spec = tie.close (tie.spec (λ c κs. search needs) returns (λ c κs. search needs) returns-2)

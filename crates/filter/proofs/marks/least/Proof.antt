@@ -33,6 +33,4 @@ returns : tie.Need-returns
 returns c = λ g m. marks-least (c .before .args .bits .now) (c .before .args .top) (omega arith) (c .before .pre) g m
 
 pub least-spec : {M : Type 1} → statement M
-least-spec =
-    tie.close
-    (tie.spec cast-i mul-result mul-result-2 element-copy-out-result cast-result add-result returns)
+least-spec = tie.close (tie.spec cast-i mul-result mul-result-2 element-copy-out-result cast-result add-result returns)

@@ -8,15 +8,6 @@ use Rattle.filter.proofs.BitLaws.{lit-kept, lit-turned, lit-yes, lit-no
 use Rattle.filter.proofs.marks.with_bit.Statement.{statement}
 use Rattle.filter.proofs.marks.with_bit.Tie as tie
 
-shr-if1 : tie.Need-shr-if1
-shr-if1 c = search needs
-
-shl-result : tie.Need-shl-result
-shl-result c = search needs
-
-shl-result-2 : tie.Need-shl-result-2
-shl-result-2 c = search needs
-
 returns : tie.Need-returns
 returns c =
     let a = c .before .before .args in
@@ -38,5 +29,4 @@ returns-4 c =
     lit-kept (a .w) (a .j) (a .on) (lit-no (a .w) (a .j) (c .before .if1 .left) ∙ sym (c .if3 .left))
 
 pub with-bit-spec : {M : Type 1} → statement M
-with-bit-spec =
-    tie.close (tie.spec shr-if1 shl-result shl-result-2 returns returns-2 returns-3 returns-4)
+with-bit-spec = tie.close (tie.spec (λ c. search needs) (λ c. search needs) (λ c. search needs) returns returns-2 returns-3 returns-4)

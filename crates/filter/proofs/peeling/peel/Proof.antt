@@ -191,9 +191,6 @@ mul-s c = omega (arith, few (c .before .before))
 slice-copy-out-s : tie.Need-slice-copy-out-s Inv-loop μ-loop
 slice-copy-out-s c = omega (arith, inside (c .before .before), wide (turn (c .before .before)) .counts)
 
-unsalt-requires : tie.Need-unsalt-requires Inv-loop μ-loop
-unsalt-requires c κs = search needs
-
 same-length : tie.Need-same-length Inv-loop μ-loop
 same-length c = lengths (head (c .before)) .0
 
@@ -335,39 +332,7 @@ pub peel-spec : {M : Type 1} → statement M
 peel-spec =
     tie.close
     (tie.spec
-    Inv-loop
-    μ-loop
-    survey-requires
-    loop-holds
-    least-requires
-    mul-x
-    slice-read-x
-    mul-h
-    slice-read-h
-    mul-s
-    slice-copy-out-s
-    unsalt-requires
-    same-length
-    same-length-2
-    same-length-3
-    same-length-4
-    same-length-5
-    returns
-    enroll-requires
-    enter-requires
-    take-out-requires
-    add-m
-    loop-less
-    loop-again
-    same-length-6
-    same-length-7
-    same-length-8
-    same-length-9
-    same-length-10
-    returns-2
-    same-length-11
-    same-length-12
-    same-length-13
-    same-length-14
-    same-length-15
-    returns-3)
+    Inv-loop μ-loop survey-requires loop-holds least-requires mul-x slice-read-x mul-h slice-read-h mul-s slice-copy-out-s
+    (λ c κs. search needs) same-length same-length-2 same-length-3 same-length-4 same-length-5 returns enroll-requires enter-requires
+    take-out-requires add-m loop-less loop-again same-length-6 same-length-7 same-length-8 same-length-9 same-length-10 returns-2
+    same-length-11 same-length-12 same-length-13 same-length-14 same-length-15 returns-3)

@@ -30,45 +30,6 @@ put-at-requires c κs =
     (taking-open (columns (a .ids .now) (a .hashes .now) (a .counts .now)) (a .size) (a .b) (bucket (a .x) (a .h) (a .s))
     (s .pre .3) (s .pre .5) (s .pre .2) (s .pre .4))
 
-mul-c : tie.Need-mul-c
-mul-c c = search needs
-
-slice-copy-out-c : tie.Need-slice-copy-out-c
-slice-copy-out-c c = search needs
-
-is-one-requires : tie.Need-is-one-requires
-is-one-requires c κs = search needs
-
-mul-looks-pure : tie.Need-mul-looks-pure
-mul-looks-pure c = search needs
-
-slice-read-looks-pure : tie.Need-slice-read-looks-pure
-slice-read-looks-pure c = search needs
-
-mul-looks-pure-2 : tie.Need-mul-looks-pure-2
-mul-looks-pure-2 c = search needs
-
-slice-read-looks-pure-2 : tie.Need-slice-read-looks-pure-2
-slice-read-looks-pure-2 c = search needs
-
-cast-looks-pure : tie.Need-cast-looks-pure
-cast-looks-pure c = search needs
-
-looks-pure-requires : tie.Need-looks-pure-requires
-looks-pure-requires c κs = search needs
-
-mark-requires : tie.Need-mark-requires
-mark-requires c κs = search needs
-
-same-length : tie.Need-same-length
-same-length c = search needs
-
-same-length-2 : tie.Need-same-length-2
-same-length-2 c = search needs
-
-same-length-3 : tie.Need-same-length-3
-same-length-3 c = search needs
-
 -- what the bucket lost
 gone : (c : tie.After-put-at) → let s = c .before .before .before .before .before .before in
     let a = s .args in
@@ -101,18 +62,6 @@ returns c =
           (c .mark .ensures (shows R (view was)) (s .pre .6))),
     )
 
-mark-requires-2 : tie.Need-mark-requires-2
-mark-requires-2 c κs = search needs
-
-same-length-4 : tie.Need-same-length-4
-same-length-4 c = search needs
-
-same-length-5 : tie.Need-same-length-5
-same-length-5 c = search needs
-
-same-length-6 : tie.Need-same-length-6
-same-length-6 c = search needs
-
 returns-2 : tie.Need-returns-2
 returns-2 c =
     let s = c .before .before .before .before .before .before .before .before .before .before .before .before .before .before .before .before in
@@ -138,24 +87,7 @@ pub settle-spec : {M : Type 1} → statement M
 settle-spec =
     tie.close
     (tie.spec
-    sub-put-at
-    put-at-requires
-    mul-c
-    slice-copy-out-c
-    is-one-requires
-    mul-looks-pure
-    slice-read-looks-pure
-    mul-looks-pure-2
-    slice-read-looks-pure-2
-    cast-looks-pure
-    looks-pure-requires
-    mark-requires
-    same-length
-    same-length-2
-    same-length-3
-    returns
-    mark-requires-2
-    same-length-4
-    same-length-5
-    same-length-6
+    sub-put-at put-at-requires (λ c. search needs) (λ c. search needs) (λ c κs. search needs) (λ c. search needs) (λ c. search needs)
+    (λ c. search needs) (λ c. search needs) (λ c. search needs) (λ c κs. search needs) (λ c κs. search needs) (λ c. search needs)
+    (λ c. search needs) (λ c. search needs) returns (λ c κs. search needs) (λ c. search needs) (λ c. search needs) (λ c. search needs)
     returns-2)

@@ -25,42 +25,6 @@ loop-holds c =
     let f = view (columns (a .ids .now) (a .hashes .now) (a .counts .now)) in
     (omega arith, shows-start (rule (a .k) (a .size) 0) f (a .bits .now) 0 (s .pre .3))
 
-mul-s : tie.Need-mul-s Inv-loop μ-loop
-mul-s c = search needs
-
-shared-slice-copy-out-s : tie.Need-shared-slice-copy-out-s Inv-loop μ-loop
-shared-slice-copy-out-s c = search needs
-
-is-one-requires : tie.Need-is-one-requires Inv-loop μ-loop
-is-one-requires c κs = search needs
-
-mul-looks-pure : tie.Need-mul-looks-pure Inv-loop μ-loop
-mul-looks-pure c = search needs
-
-shared-slice-read-looks-pure : tie.Need-shared-slice-read-looks-pure Inv-loop μ-loop
-shared-slice-read-looks-pure c = search needs
-
-mul-looks-pure-2 : tie.Need-mul-looks-pure-2 Inv-loop μ-loop
-mul-looks-pure-2 c = search needs
-
-shared-slice-read-looks-pure-2 : tie.Need-shared-slice-read-looks-pure-2 Inv-loop μ-loop
-shared-slice-read-looks-pure-2 c = search needs
-
-cast-looks-pure : tie.Need-cast-looks-pure Inv-loop μ-loop
-cast-looks-pure c = search needs
-
-looks-pure-requires : tie.Need-looks-pure-requires Inv-loop μ-loop
-looks-pure-requires c κs = search needs
-
-mark-requires : tie.Need-mark-requires Inv-loop μ-loop
-mark-requires c κs = search needs
-
-add-b : tie.Need-add-b Inv-loop μ-loop
-add-b c = search needs
-
-loop-less : tie.Need-loop-less Inv-loop μ-loop
-loop-less c = search needs
-
 loop-again : tie.Need-loop-again Inv-loop μ-loop
 loop-again c =
     let s = c .before .before .before .before .before .before .before in
@@ -94,20 +58,6 @@ pub survey-spec : {M : Type 1} → statement M
 survey-spec =
     tie.close
     (tie.spec
-    Inv-loop
-    μ-loop
-    loop-holds
-    mul-s
-    shared-slice-copy-out-s
-    is-one-requires
-    mul-looks-pure
-    shared-slice-read-looks-pure
-    mul-looks-pure-2
-    shared-slice-read-looks-pure-2
-    cast-looks-pure
-    looks-pure-requires
-    mark-requires
-    add-b
-    loop-less
-    loop-again
-    returns)
+    Inv-loop μ-loop loop-holds (λ c. search needs) (λ c. search needs) (λ c κs. search needs) (λ c. search needs) (λ c. search needs)
+    (λ c. search needs) (λ c. search needs) (λ c. search needs) (λ c κs. search needs) (λ c κs. search needs) (λ c. search needs)
+    (λ c. search needs) loop-again returns)

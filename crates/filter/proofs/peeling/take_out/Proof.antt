@@ -24,24 +24,12 @@ Inv-loop tab ids₀ hashes₀ counts₀ bits₀ top x h s size k p t₀ j₀ ids
 abbrev μ-loop : tie.MeasureT-loop
 μ-loop tab ids₀ hashes₀ counts₀ bits₀ top x h s size k p t₀ j₀ ids hashes counts bits t j = k - j
 
-places-requires : tie.Need-places-requires Inv-loop μ-loop
-places-requires c κs = search needs
-
 loop-holds : tie.Need-loop-holds Inv-loop μ-loop
 loop-holds c =
     let s = c .before .before .before in
     let a = s .args in
     let was : Columns = columns (a .ids .now) (a .hashes .now) (a .counts .now) in
     taking-start (a .k) (a .size) (a .x) (a .h) (toZ w64 (ofZ w64 (a .s))) was (a .bits .now) (a .top) (s .pre .4) (s .pre .5)
-
-mul-b : tie.Need-mul-b Inv-loop μ-loop
-mul-b c = search needs
-
-array-read-b : tie.Need-array-read-b Inv-loop μ-loop
-array-read-b c = search needs
-
-cast-b : tie.Need-cast-b Inv-loop μ-loop
-cast-b c = search needs
 
 settle-requires : tie.Need-settle-requires Inv-loop μ-loop
 settle-requires c κs =
@@ -61,12 +49,6 @@ settle-requires c κs =
       taking-small (a .k) (a .size) (a .x) (a .h) z was is (w .bits) (w .t) (w .j) (s .pre .1) (s .pre .2) (w .inv),
       w .inv .marks,
     )
-
-add-j : tie.Need-add-j Inv-loop μ-loop
-add-j c = search needs
-
-loop-less : tie.Need-loop-less Inv-loop μ-loop
-loop-less c = search needs
 
 loop-again : tie.Need-loop-again Inv-loop μ-loop
 loop-again c =
@@ -108,18 +90,5 @@ pub take-out-spec : {M : Type 1} → statement M
 take-out-spec =
     tie.close
     (tie.spec
-    Inv-loop
-    μ-loop
-    places-requires
-    loop-holds
-    mul-b
-    array-read-b
-    cast-b
-    settle-requires
-    add-j
-    loop-less
-    loop-again
-    same-length
-    same-length-2
-    same-length-3
-    returns)
+    Inv-loop μ-loop (λ c κs. search needs) loop-holds (λ c. search needs) (λ c. search needs) (λ c. search needs) settle-requires
+    (λ c. search needs) (λ c. search needs) loop-again same-length same-length-2 same-length-3 returns)

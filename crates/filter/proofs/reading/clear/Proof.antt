@@ -8,24 +8,6 @@ use borrow.Author.Needs.{needs}
 use Rattle.filter.proofs.reading.clear.Statement.{statement}
 use Rattle.filter.proofs.reading.clear.Tie as tie
 
-has-all-room-requires : tie.Need-has-all-room-requires
-has-all-room-requires c κs = search needs
-
-same-length : tie.Need-same-length
-same-length c = search needs
-
-same-length-2 : tie.Need-same-length-2
-same-length-2 c = search needs
-
-same-length-3 : tie.Need-same-length-3
-same-length-3 c = search needs
-
-same-length-4 : tie.Need-same-length-4
-same-length-4 c = search needs
-
-same-length-5 : tie.Need-same-length-5
-same-length-5 c = search needs
-
 returns : tie.Need-returns
 unfolding clearCall
 returns c = rw (test-refused (c .before .has-all-room .ensures) (c .if1 .taken))
@@ -35,21 +17,6 @@ clear-all-requires c κs =
     let s = c .before .before .before .before .before .before .before .before .before .before .before .before .before .before .before .before in
     clear-ready (s .args .size) (columns (now (s .args .ids)) (now (s .args .hashes)) (now (s .args .counts))) (now (s .args .ours)) (now (s .args .theirs))
     (test-granted (c .before .before .before .before .before .before .has-all-room .ensures) (c .before .before .before .before .before .if1 .left))
-
-same-length-6 : tie.Need-same-length-6
-same-length-6 c = search needs
-
-same-length-7 : tie.Need-same-length-7
-same-length-7 c = search needs
-
-same-length-8 : tie.Need-same-length-8
-same-length-8 c = search needs
-
-same-length-9 : tie.Need-same-length-9
-same-length-9 c = search needs
-
-same-length-10 : tie.Need-same-length-10
-same-length-10 c = search needs
 
 returns-2 : tie.Need-returns-2
 unfolding clearCall
@@ -62,17 +29,5 @@ pub clear-spec : {M : Type 1} → statement M
 clear-spec =
     tie.close
     (tie.spec
-    has-all-room-requires
-    same-length
-    same-length-2
-    same-length-3
-    same-length-4
-    same-length-5
-    returns
-    clear-all-requires
-    same-length-6
-    same-length-7
-    same-length-8
-    same-length-9
-    same-length-10
-    returns-2)
+    (λ c κs. search needs) (λ c. search needs) (λ c. search needs) (λ c. search needs) (λ c. search needs) (λ c. search needs) returns
+    clear-all-requires (λ c. search needs) (λ c. search needs) (λ c. search needs) (λ c. search needs) (λ c. search needs) returns-2)

@@ -52,21 +52,6 @@ minus s =
     let a = s .args in
     difference (filterRule (a .size) (a .salt)) (idsOf firstEight (a .table .now)) (view (received s))
 
-tables-requires : tie.Need-tables-requires
-tables-requires c κs = search needs
-
-subtract-requires : tie.Need-subtract-requires
-subtract-requires c κs = search needs
-
-clear-list-requires : tie.Need-clear-list-requires
-clear-list-requires c κs = search needs
-
-clear-list-requires-2 : tie.Need-clear-list-requires-2
-clear-list-requires-2 c κs = search needs
-
-place-count-requires : tie.Need-place-count-requires
-place-count-requires c κs = search needs
-
 peel-requires : tie.Need-peel-requires
 peel-requires c κs =
     let s = start c in
@@ -91,18 +76,6 @@ same-length c =
     let p = c .before .before .before .before .before .before .before .before in
     p .ids2 .given ∙ ours-cleared (p .before .before) .before .before .before .before .before .before .ids .given
 
-same-length-2 : tie.Need-same-length-2
-same-length-2 c = search needs
-
-same-length-3 : tie.Need-same-length-3
-same-length-3 c = search needs
-
-same-length-4 : tie.Need-same-length-4
-same-length-4 c = search needs
-
-same-length-5 : tie.Need-same-length-5
-same-length-5 c = search needs
-
 returns : tie.Need-returns
 returns c =
     let p = c .before .before .before .before .before .before .before .before .before in
@@ -117,15 +90,5 @@ pub peel-difference-spec : {M : Type 1} → statement M
 peel-difference-spec =
     tie.close
     (tie.spec
-    tables-requires
-    subtract-requires
-    clear-list-requires
-    clear-list-requires-2
-    place-count-requires
-    peel-requires
-    same-length
-    same-length-2
-    same-length-3
-    same-length-4
-    same-length-5
-    returns)
+    (λ c κs. search needs) (λ c κs. search needs) (λ c κs. search needs) (λ c κs. search needs) (λ c κs. search needs) peel-requires
+    same-length (λ c. search needs) (λ c. search needs) (λ c. search needs) (λ c. search needs) returns)

@@ -26,9 +26,6 @@ negate-requires c κs =
     let r = s .pre .1 in
     (r .wide .counts, λ i h. let k = counts-small (s .args .size) (columns (now (s .args .ids)) (now (s .args .hashes)) (now (s .args .counts))) (r .wide) (r .counts) .all i h in omega arith)
 
-place-count-requires : tie.Need-place-count-requires
-place-count-requires c κs = search needs
-
 add-table-requires : tie.Need-add-table-requires
 add-table-requires c κs =
     let s = c .before .before .before .before .before .before .before .before .before .before in
@@ -43,15 +40,6 @@ add-table-requires c κs =
           (negated-small (s .args .size) (2 ^ 32) (now (s .args .ids)) (now (s .args .hashes)) (now (s .args .counts)) (r .wide .counts)
           (counts-small (s .args .size) (columns (now (s .args .ids)) (now (s .args .hashes)) (now (s .args .counts))) (r .wide) (r .counts))))),
     )
-
-same-length : tie.Need-same-length
-same-length c = search needs
-
-same-length-2 : tie.Need-same-length-2
-same-length-2 c = search needs
-
-same-length-3 : tie.Need-same-length-3
-same-length-3 c = search needs
 
 returns : tie.Need-returns
 unfolding difference
@@ -69,10 +57,4 @@ pub subtract-spec : {M : Type 1} → statement M
 subtract-spec =
     tie.close
     (tie.spec
-    negate-requires
-    place-count-requires
-    add-table-requires
-    same-length
-    same-length-2
-    same-length-3
-    returns)
+    negate-requires (λ c κs. search needs) add-table-requires (λ c. search needs) (λ c. search needs) (λ c. search needs) returns)

@@ -7,9 +7,6 @@ use Rattle.filter.proofs.RepeatLaws.{chains-again}
 use Rattle.filter.proofs.repeats.enroll.Statement.{statement}
 use Rattle.filter.proofs.repeats.enroll.Tie as tie
 
-is-noted-requires : tie.Need-is-noted-requires
-is-noted-requires c κs = search needs
-
 returns : tie.Need-returns
 returns c =
     let s = c .before .before .before .before .before in
@@ -20,9 +17,6 @@ returns c =
       chains = λ e. absurd (false≢true e);
       now-last = λ e. absurd (false≢true e);
     }
-
-note-requires : tie.Need-note-requires
-note-requires c κs = search needs
 
 returns-2 : tie.Need-returns-2
 returns-2 c =
@@ -36,4 +30,4 @@ returns-2 c =
     }
 
 pub enroll-spec : {M : Type 1} → statement M
-enroll-spec = tie.close (tie.spec is-noted-requires returns note-requires returns-2)
+enroll-spec = tie.close (tie.spec (λ c κs. search needs) returns (λ c κs. search needs) returns-2)

@@ -7,12 +7,6 @@ use Rattle.filter.proofs.RepeatLaws.{points-none, points-head}
 use Rattle.filter.proofs.repeats.head.Statement.{statement}
 use Rattle.filter.proofs.repeats.head.Tie as tie
 
-mul-p : tie.Need-mul-p
-mul-p c = search needs
-
-element-copy-out-p : tie.Need-element-copy-out-p
-element-copy-out-p c = search needs
-
 cast-p : tie.Need-cast-p
 cast-p c =
     let s = c .before in
@@ -30,15 +24,6 @@ returns-2 c =
     let a = s .args in
     points-none (a .n) (a .v % 4096) (a .heads .now) (a .seen .now) (s .pre) (λ j h. omega (arith, h .within, c .if2 .taken))
 
-sub-if3 : tie.Need-sub-if3
-sub-if3 c = search needs
-
-mul-if3 : tie.Need-mul-if3
-mul-if3 c = search needs
-
-element-copy-out-if3 : tie.Need-element-copy-out-if3
-element-copy-out-if3 c = search needs
-
 returns-3 : tie.Need-returns-3
 returns-3 c =
     let s = c .before .before .before .before .before in
@@ -55,13 +40,5 @@ pub head-spec : {M : Type 1} → statement M
 head-spec =
     tie.close
     (tie.spec
-    mul-p
-    element-copy-out-p
-    cast-p
-    returns
-    returns-2
-    sub-if3
-    mul-if3
-    element-copy-out-if3
-    returns-3
+    (λ c. search needs) (λ c. search needs) cast-p returns returns-2 (λ c. search needs) (λ c. search needs) (λ c. search needs) returns-3
     returns-4)

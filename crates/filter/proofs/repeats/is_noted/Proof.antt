@@ -14,34 +14,16 @@ Inv-loop heads links seen n v p₀ p = Walk seen n v p
 abbrev μ-loop : tie.MeasureT-loop
 μ-loop heads links seen n v p₀ p = p
 
-head-requires : tie.Need-head-requires Inv-loop μ-loop
-head-requires c κs = search needs
-
 loop-holds : tie.Need-loop-holds Inv-loop μ-loop
 loop-holds c =
     let a = c .before .args in
     walk-start (a .n) (a .seen .now) (a .v) (c .head .result) (c .head .ensures)
-
-sub-k : tie.Need-sub-k Inv-loop μ-loop
-sub-k c = search needs
-
-mul-if1 : tie.Need-mul-if1 Inv-loop μ-loop
-mul-if1 c = search needs
-
-element-copy-out-if1 : tie.Need-element-copy-out-if1 Inv-loop μ-loop
-element-copy-out-if1 c = search needs
 
 returns : tie.Need-returns Inv-loop μ-loop
 returns c =
     let a = c .before .before .before .before .before .args in
     let w = c .before .before .before .loop in
     sym (upto-some (a .seen .now) (a .n) (a .v) (w .p - 1) (omega (arith, w .inv .within, c .before .before .loop-test .taken)) (c .if1 .taken))
-
-mul-p : tie.Need-mul-p Inv-loop μ-loop
-mul-p c = search needs
-
-element-copy-out-p : tie.Need-element-copy-out-p Inv-loop μ-loop
-element-copy-out-p c = search needs
 
 cast-p : tie.Need-cast-p Inv-loop μ-loop
 cast-p c =
@@ -75,17 +57,5 @@ pub is-noted-spec : {M : Type 1} → statement M
 is-noted-spec =
     tie.close
     (tie.spec
-    Inv-loop
-    μ-loop
-    head-requires
-    loop-holds
-    sub-k
-    mul-if1
-    element-copy-out-if1
-    returns
-    mul-p
-    element-copy-out-p
-    cast-p
-    loop-less
-    loop-again
-    returns-2)
+    Inv-loop μ-loop (λ c κs. search needs) loop-holds (λ c. search needs) (λ c. search needs) (λ c. search needs) returns
+    (λ c. search needs) (λ c. search needs) cast-p loop-less loop-again returns-2)

@@ -24,9 +24,6 @@ loop-holds c =
     tally-start (s .args .salt) (columns (now (s .args .ids)) (now (s .args .hashes)) (now (s .args .counts))) _ _ _ (s .pre .2) (s .pre .3)
     (chains-start 4096 refl)
 
-sub-n : tie.Need-sub-n Inv-loop μ-loop
-sub-n c = search needs
-
 read-one-requires : tie.Need-read-one-requires Inv-loop μ-loop
 read-one-requires c κs =
     let s = c .before .before .before .before .before .before .before .before .before .before in
@@ -40,20 +37,8 @@ read-one-requires c κs =
       at .inv .chains,
     )
 
-add-result : tie.Need-add-result Inv-loop μ-loop
-add-result c = search needs
-
 shl-result : tie.Need-shl-result Inv-loop μ-loop
 shl-result c = omega (arith, c .before .before .before .before .before .before .before .before .before .before .before .before .before .before .before .loop .inv .few)
-
-same-length : tie.Need-same-length Inv-loop μ-loop
-same-length c = search needs
-
-same-length-2 : tie.Need-same-length-2 Inv-loop μ-loop
-same-length-2 c = search needs
-
-same-length-3 : tie.Need-same-length-3 Inv-loop μ-loop
-same-length-3 c = search needs
 
 returns : tie.Need-returns Inv-loop μ-loop
 returns c =
@@ -68,9 +53,6 @@ add-total c =
     let at = c .before .before .before .before .before .before .before .before .before .before .before .before .before .before .before .loop in
     omega (arith, at .inv .bound, c .before .before .before .before .before .before .before .read-one .ensures .0 .few)
 
-loop-less : tie.Need-loop-less Inv-loop μ-loop
-loop-less c = search needs
-
 loop-again : tie.Need-loop-again Inv-loop μ-loop
 loop-again c =
     let at = c .before .before .before .before .before .before .before .before .before .before .before .before .before .before .before .loop in
@@ -79,15 +61,6 @@ loop-again c =
     let left = columns (read .last .1 .0) (read .last .1 .1 .0) (read .last .1 .1 .1 .0) in
     tally-next (at .n - 1) left (at .inv) (omega (arith, more)) (read .ensures .0) (read .ensures .1) (c .if1 .left) (read .ensures .2)
 
-same-length-4 : tie.Need-same-length-4 Inv-loop μ-loop
-same-length-4 c = search needs
-
-same-length-5 : tie.Need-same-length-5 Inv-loop μ-loop
-same-length-5 c = search needs
-
-same-length-6 : tie.Need-same-length-6 Inv-loop μ-loop
-same-length-6 c = search needs
-
 returns-2 : tie.Need-returns-2 Inv-loop μ-loop
 returns-2 c = tally-end (c .before .loop .inv) (omega arith)
 
@@ -95,21 +68,6 @@ pub read-all-spec : {M : Type 1} → statement M
 read-all-spec =
     tie.close
     (tie.spec
-    Inv-loop
-    μ-loop
-    loop-holds
-    sub-n
-    read-one-requires
-    add-result
-    shl-result
-    same-length
-    same-length-2
-    same-length-3
-    returns
-    add-total
-    loop-less
-    loop-again
-    same-length-4
-    same-length-5
-    same-length-6
+    Inv-loop μ-loop loop-holds (λ c. search needs) read-one-requires (λ c. search needs) shl-result (λ c. search needs) (λ c. search needs)
+    (λ c. search needs) returns add-total (λ c. search needs) loop-again (λ c. search needs) (λ c. search needs) (λ c. search needs)
     returns-2)

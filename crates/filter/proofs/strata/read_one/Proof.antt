@@ -8,48 +8,6 @@ use Rattle.filter.proofs.LentLaws.{stratum-wide, stratum-small, stratum
 use Rattle.filter.proofs.strata.read_one.Statement.{statement}
 use Rattle.filter.proofs.strata.read_one.Tie as tie
 
-mul-a : tie.Need-mul-a
-mul-a c = search needs
-
-add-e : tie.Need-add-e
-add-e c = search needs
-
-mul-read-part : tie.Need-mul-read-part
-mul-read-part c = search needs
-
-sub-read-part : tie.Need-sub-read-part
-sub-read-part c = search needs
-
-part-read-part-start : tie.Need-part-read-part-start
-part-read-part-start c = search needs
-
-part-read-part-end : tie.Need-part-read-part-end
-part-read-part-end c = search needs
-
-mul-read-part-2 : tie.Need-mul-read-part-2
-mul-read-part-2 c = search needs
-
-sub-read-part-2 : tie.Need-sub-read-part-2
-sub-read-part-2 c = search needs
-
-part-read-part-start-2 : tie.Need-part-read-part-start-2
-part-read-part-start-2 c = search needs
-
-part-read-part-end-2 : tie.Need-part-read-part-end-2
-part-read-part-end-2 c = search needs
-
-mul-read-part-3 : tie.Need-mul-read-part-3
-mul-read-part-3 c = search needs
-
-sub-read-part-3 : tie.Need-sub-read-part-3
-sub-read-part-3 c = search needs
-
-part-read-part-start-3 : tie.Need-part-read-part-start-3
-part-read-part-start-3 c = search needs
-
-part-read-part-end-3 : tie.Need-part-read-part-end-3
-part-read-part-end-3 c = search needs
-
 read-part-requires : tie.Need-read-part-requires
 read-part-requires c κs =
     let s = c .before .before .before .before .before .before .before .before in
@@ -61,15 +19,6 @@ read-part-requires c κs =
       stratum-small (a .s) c₀ (s .pre .2) (s .pre .3) (2 ^ 34) (79 * (a .s + 1)) (omega arith) (s .pre .4),
       s .pre .5,
     )
-
-same-length : tie.Need-same-length
-same-length c = search needs
-
-same-length-2 : tie.Need-same-length-2
-same-length-2 c = search needs
-
-same-length-3 : tie.Need-same-length-3
-same-length-3 c = search needs
 
 returns : tie.Need-returns
 returns c =
@@ -86,22 +35,6 @@ pub read-one-spec : {M : Type 1} → statement M
 read-one-spec =
     tie.close
     (tie.spec
-    mul-a
-    add-e
-    mul-read-part
-    sub-read-part
-    part-read-part-start
-    part-read-part-end
-    mul-read-part-2
-    sub-read-part-2
-    part-read-part-start-2
-    part-read-part-end-2
-    mul-read-part-3
-    sub-read-part-3
-    part-read-part-start-3
-    part-read-part-end-3
-    read-part-requires
-    same-length
-    same-length-2
-    same-length-3
-    returns)
+    (λ c. search needs) (λ c. search needs) (λ c. search needs) (λ c. search needs) (λ c. search needs) (λ c. search needs)
+    (λ c. search needs) (λ c. search needs) (λ c. search needs) (λ c. search needs) (λ c. search needs) (λ c. search needs)
+    (λ c. search needs) (λ c. search needs) read-part-requires (λ c. search needs) (λ c. search needs) (λ c. search needs) returns)

@@ -10,12 +10,6 @@ use Rattle.filter.proofs.TallyLaws.{part-few, part-false, part-fine}
 use Rattle.filter.proofs.strata.read_part.Statement.{statement}
 use Rattle.filter.proofs.strata.read_part.Tie as tie
 
-slice-aggregate-peel : tie.Need-slice-aggregate-peel
-slice-aggregate-peel c = search needs
-
-slice-aggregate-peel-2 : tie.Need-slice-aggregate-peel-2
-slice-aggregate-peel-2 c = search needs
-
 peel-requires : tie.Need-peel-requires
 peel-requires c κs =
     let s = c .before .before .before .before .before .before .before .before .before .before in (
@@ -28,18 +22,6 @@ peel-requires c κs =
       s .pre .4,
     )
 
-clear-columns-requires : tie.Need-clear-columns-requires
-clear-columns-requires c κs = search needs
-
-same-length : tie.Need-same-length
-same-length c = search needs
-
-same-length-2 : tie.Need-same-length-2
-same-length-2 c = search needs
-
-same-length-3 : tie.Need-same-length-3
-same-length-3 c = search needs
-
 returns : tie.Need-returns
 returns c =
     let s = c .before .before .before .before .before .before .before .before .before .before .before .before .before .before .before .before .before .before .before .before .before .before .before .before .before .before .before .before .before in
@@ -50,20 +32,8 @@ returns c =
     (s .pre .2) (c .before .before .before .before .before .before .before .before .before .if1 .taken) (c .before .before .before .before .before .clear-columns .ensures) in
     (done .0, done .1, peel .ensures .1)
 
-all-zero-requires : tie.Need-all-zero-requires
-all-zero-requires c κs = search needs
-
 add-t40 : tie.Need-add-t40
 add-t40 c = omega (arith, part-few _ _ _ (c .before .before .before .before .before .before .before .before .before .before .before .before .before .before .peel .ensures .0))
-
-same-length-4 : tie.Need-same-length-4
-same-length-4 c = search needs
-
-same-length-5 : tie.Need-same-length-5
-same-length-5 c = search needs
-
-same-length-6 : tie.Need-same-length-6
-same-length-6 c = search needs
 
 returns-2 : tie.Need-returns-2
 returns-2 c =
@@ -79,17 +49,5 @@ pub read-part-spec : {M : Type 1} → statement M
 read-part-spec =
     tie.close
     (tie.spec
-    slice-aggregate-peel
-    slice-aggregate-peel-2
-    peel-requires
-    clear-columns-requires
-    same-length
-    same-length-2
-    same-length-3
-    returns
-    all-zero-requires
-    add-t40
-    same-length-4
-    same-length-5
-    same-length-6
-    returns-2)
+    (λ c. search needs) (λ c. search needs) peel-requires (λ c κs. search needs) (λ c. search needs) (λ c. search needs) (λ c. search needs)
+    returns (λ c κs. search needs) add-t40 (λ c. search needs) (λ c. search needs) (λ c. search needs) returns-2)

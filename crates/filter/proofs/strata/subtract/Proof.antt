@@ -102,12 +102,6 @@ mul-t12 c = let w = wide (c .before .before .before .before .before .before .bef
 slice-set-from-counts : tie.Need-slice-set-from-counts Inv-loop μ-loop
 slice-set-from-counts c = let w = wide (c .before .before .before .before .before .before .before) in omega arith
 
-add-i : tie.Need-add-i Inv-loop μ-loop
-add-i c = search needs
-
-loop-less : tie.Need-loop-less Inv-loop μ-loop
-loop-less c = search needs
-
 loop-again : tie.Need-loop-again Inv-loop μ-loop
 loop-again c =
     let l = c .before .before .before .before .before .before .before in
@@ -132,32 +126,6 @@ pub subtract-spec : {M : Type 1} → statement M
 subtract-spec =
     tie.close
     (tie.spec
-    Inv-loop
-    μ-loop
-    loop-holds
-    mul-ids
-    slice-read-ids
-    mul-ids-2
-    shared-slice-read-ids
-    mul-ids-3
-    slice-write-ids
-    mul-hashes
-    slice-read-hashes
-    mul-hashes-2
-    shared-slice-read-hashes
-    mul-hashes-3
-    slice-write-hashes
-    mul-c
-    slice-copy-out-c
-    mul-d
-    shared-slice-copy-out-d
-    sub-counts
-    mul-t12
-    slice-set-from-counts
-    add-i
-    loop-less
-    loop-again
-    same-length
-    same-length-2
-    same-length-3
-    returns)
+    Inv-loop μ-loop loop-holds mul-ids slice-read-ids mul-ids-2 shared-slice-read-ids mul-ids-3 slice-write-ids mul-hashes slice-read-hashes
+    mul-hashes-2 shared-slice-read-hashes mul-hashes-3 slice-write-hashes mul-c slice-copy-out-c mul-d shared-slice-copy-out-d sub-counts
+    mul-t12 slice-set-from-counts (λ c. search needs) (λ c. search needs) loop-again same-length same-length-2 same-length-3 returns)

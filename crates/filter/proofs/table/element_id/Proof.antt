@@ -11,9 +11,6 @@ use borrow.Author.Needs.{needs}
 use Rattle.filter.proofs.table.element_id.Statement.{statement}
 use Rattle.filter.proofs.table.element_id.Tie as tie
 
-count-requires : tie.Need-count-requires
-count-requires c κs = search needs
-
 returns : tie.Need-returns
 returns c =
     let a = c .before .before .before .args in
@@ -33,5 +30,4 @@ returns-2 c =
     ∙ sym (id-at (a .table .now) (a .i) (omega (arith, hashes-length (a .table .now))))
 
 pub element-id-spec : {M : Type 1} → statement M
-element-id-spec =
-    tie.close (tie.spec count-requires returns mul-eight-bytes eight-bytes-requires returns-2)
+element-id-spec = tie.close (tie.spec (λ c κs. search needs) returns mul-eight-bytes eight-bytes-requires returns-2)

@@ -22,9 +22,6 @@ returns c =
     let a = c .before .before .before .args in
     sym (ap (position (hashesOf (a .table .now))) (hash-past (a .hash .now) 0 (omega arith)) ∙ position-zero (hashesOf (a .table .now)))
 
-count-requires : tie.Need-count-requires Inv-loop μ-loop
-count-requires c κs = search needs
-
 loop-holds : tie.Need-loop-holds Inv-loop μ-loop
 loop-holds c =
     let a = c .before .before .before .before .args in
@@ -46,9 +43,6 @@ add-lo c =
     let t = c .before .before .before .before .before .before .before .before .args .table .now in
     omega (arith, c .before .before .before .loop .inv .within, hashes-length t)
 
-loop-less : tie.Need-loop-less Inv-loop μ-loop
-loop-less c = search needs
-
 loop-again : tie.Need-loop-again Inv-loop μ-loop
 loop-again c =
     let a = c .before .before .before .before .before .before .before .before .args in
@@ -56,9 +50,6 @@ loop-again c =
     halving-right (at .inv) (c .before .before .loop-test .taken)
     (hashes-compared (a .table .now) ((at .lo + at .hi) / 2) (a .hash .now) 0 (omega (arith, at .inv .within, hashes-length (a .table .now))) (omega arith)
     ∙ sym (c .before .is-below .ensures) ∙ c .if2 .taken)
-
-loop-less-2 : tie.Need-loop-less-2 Inv-loop μ-loop
-loop-less-2 c = search needs
 
 loop-again-2 : tie.Need-loop-again-2 Inv-loop μ-loop
 loop-again-2 c =
@@ -75,17 +66,5 @@ pub hash-position-spec : {M : Type 1} → statement M
 hash-position-spec =
     tie.close
     (tie.spec
-    Inv-loop
-    μ-loop
-    returns
-    count-requires
-    loop-holds
-    add-m
-    mul-is-below
-    is-below-requires
-    add-lo
-    loop-less
-    loop-again
-    loop-less-2
-    loop-again-2
-    returns-2)
+    Inv-loop μ-loop returns (λ c κs. search needs) loop-holds add-m mul-is-below is-below-requires add-lo (λ c. search needs) loop-again
+    (λ c. search needs) loop-again-2 returns-2)

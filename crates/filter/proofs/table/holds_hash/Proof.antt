@@ -19,12 +19,6 @@ returns c =
     let a = c .before .before .before .args in
     sym (ap (λ (t : Bool). t && holds (hashesOf (a .table .now)) (getD (hashesOf (a .hash .now)) 0 0)) (lt-leb 64 (length (a .hash .now)) (omega arith)))
 
-hash-position-requires : tie.Need-hash-position-requires
-hash-position-requires c κs = search needs
-
-count-requires : tie.Need-count-requires
-count-requires c κs = search needs
-
 returns-2 : tie.Need-returns-2
 returns-2 c =
     let a = c .before .before .before .before .before .before .args in
@@ -52,10 +46,4 @@ pub holds-hash-spec : {M : Type 1} → statement M
 holds-hash-spec =
     tie.close
     (tie.spec
-    returns
-    hash-position-requires
-    count-requires
-    returns-2
-    mul-is-below
-    is-below-requires
-    returns-3)
+    returns (λ c κs. search needs) (λ c κs. search needs) returns-2 mul-is-below is-below-requires returns-3)

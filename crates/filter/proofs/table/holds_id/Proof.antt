@@ -10,20 +10,11 @@ use borrow.Author.Needs.{needs}
 use Rattle.filter.proofs.table.holds_id.Statement.{statement}
 use Rattle.filter.proofs.table.holds_id.Tie as tie
 
-id-position-requires : tie.Need-id-position-requires
-id-position-requires c κs = search needs
-
-count-requires : tie.Need-count-requires
-count-requires c κs = search needs
-
 returns : tie.Need-returns
 returns c =
     let a = c .before .before .before .before .args in
     let t = a .table .now in
     holds-past (idsOf firstEight t) (a .id) (c .before .before .id-position .ensures) (omega (arith, hashes-length t, ids-length firstEight t))
-
-element-id-requires : tie.Need-element-id-requires
-element-id-requires c κs = search needs
 
 returns-2 : tie.Need-returns-2
 returns-2 c =
@@ -33,5 +24,4 @@ returns-2 c =
     ∙ holds-there (idsOf firstEight t) (a .id) (c .before .before .before .id-position .ensures) (omega (arith, hashes-length t, ids-length firstEight t))
 
 pub holds-id-spec : {M : Type 1} → statement M
-holds-id-spec =
-    tie.close (tie.spec id-position-requires count-requires returns element-id-requires returns-2)
+holds-id-spec = tie.close (tie.spec (λ c κs. search needs) (λ c κs. search needs) returns (λ c κs. search needs) returns-2)

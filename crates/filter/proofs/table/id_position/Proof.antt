@@ -18,9 +18,6 @@ Inv-loop table id lo₀ hi₀ lo hi = Halving (idsOf firstEight table) id lo hi
 abbrev μ-loop : tie.MeasureT-loop
 μ-loop table id lo₀ hi₀ lo hi = hi - lo
 
-count-requires : tie.Need-count-requires Inv-loop μ-loop
-count-requires c κs = search needs
-
 loop-holds : tie.Need-loop-holds Inv-loop μ-loop
 loop-holds c =
     let a = c .before .before .args in
@@ -30,25 +27,16 @@ loop-holds c =
 add-m : tie.Need-add-m Inv-loop μ-loop
 add-m c = omega (arith, c .before .loop .inv .within, ids-length firstEight (c .before .before .before .before .args .table .now))
 
-element-id-requires : tie.Need-element-id-requires Inv-loop μ-loop
-element-id-requires c κs = search needs
-
 add-lo : tie.Need-add-lo Inv-loop μ-loop
 add-lo c =
     let t = c .before .before .before .before .before .before .args .table .now in
     omega (arith, c .before .before .before .loop .inv .within, ids-length firstEight t)
-
-loop-less : tie.Need-loop-less Inv-loop μ-loop
-loop-less c = search needs
 
 loop-again : tie.Need-loop-again Inv-loop μ-loop
 loop-again c =
     let a = c .before .before .before .before .before .before .args in
     halving-right (c .before .before .before .loop .inv) (c .before .before .loop-test .taken)
     (ap (λ (v : ℕ). ltb v (a .id)) (sym (c .before .element-id .ensures)) ∙ lt-ltb (c .before .element-id .result) (a .id) (c .if1 .taken))
-
-loop-less-2 : tie.Need-loop-less-2 Inv-loop μ-loop
-loop-less-2 c = search needs
 
 loop-again-2 : tie.Need-loop-again-2 Inv-loop μ-loop
 loop-again-2 c =
@@ -63,15 +51,5 @@ pub id-position-spec : {M : Type 1} → statement M
 id-position-spec =
     tie.close
     (tie.spec
-    Inv-loop
-    μ-loop
-    count-requires
-    loop-holds
-    add-m
-    element-id-requires
-    add-lo
-    loop-less
-    loop-again
-    loop-less-2
-    loop-again-2
-    returns)
+    Inv-loop μ-loop (λ c κs. search needs) loop-holds add-m (λ c κs. search needs) add-lo (λ c. search needs) loop-again (λ c. search needs)
+    loop-again-2 returns)

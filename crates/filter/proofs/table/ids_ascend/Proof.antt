@@ -22,29 +22,17 @@ returns c =
     let t = c .before .before .args .table .now in
     sym (ascending-none (idsOf firstEight t) (omega (arith, hashes-length t, ids-length firstEight t)))
 
-element-id-requires : tie.Need-element-id-requires Inv-loop μ-loop
-element-id-requires c κs = search needs
-
 loop-holds : tie.Need-loop-holds Inv-loop μ-loop
 loop-holds c =
     let t = c .before .before .before .args .table .now in
     let same : c .before .before .before .args .n ≡ length (idsOf firstEight t) = omega (arith, hashes-length t, ids-length firstEight t) in
     (same, rising-start (idsOf firstEight t) (c .element-id .result) (omega arith) (c .element-id .ensures))
 
-element-id-requires-2 : tie.Need-element-id-requires-2 Inv-loop μ-loop
-element-id-requires-2 c κs = search needs
-
 returns-2 : tie.Need-returns-2 Inv-loop μ-loop
 returns-2 c =
     let t = c .before .before .before .before .before .before .before .args .table .now in
     let at = c .before .before .before .loop in
     rising-stops (idsOf firstEight t) (at .last) (at .e) (c .before .element-id2 .result) (at .inv .1) (omega arith) (c .before .element-id2 .ensures) (c .if2 .taken)
-
-add-e : tie.Need-add-e Inv-loop μ-loop
-add-e c = search needs
-
-loop-less : tie.Need-loop-less Inv-loop μ-loop
-loop-less c = search needs
 
 loop-again : tie.Need-loop-again Inv-loop μ-loop
 loop-again c =
@@ -62,14 +50,5 @@ pub ids-ascend-spec : {M : Type 1} → statement M
 ids-ascend-spec =
     tie.close
     (tie.spec
-    Inv-loop
-    μ-loop
-    returns
-    element-id-requires
-    loop-holds
-    element-id-requires-2
-    returns-2
-    add-e
-    loop-less
-    loop-again
-    returns-3)
+    Inv-loop μ-loop returns (λ c κs. search needs) loop-holds (λ c κs. search needs) returns-2 (λ c. search needs) (λ c. search needs)
+    loop-again returns-3)

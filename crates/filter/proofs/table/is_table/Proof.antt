@@ -9,16 +9,10 @@ use Rattle.filter.proofs.table.is_table.Tie as tie
 returns : tie.Need-returns
 returns c = table-torn (c .before .before .args .table .now) (c .if1 .taken)
 
-count-requires : tie.Need-count-requires
-count-requires c κs = search needs
-
 returns-2 : tie.Need-returns-2
 returns-2 c =
     let t = c .before .before .before .before .args .table .now in
     table-large t (omega (arith, hashes-length t))
-
-ids-ascend-requires : tie.Need-ids-ascend-requires
-ids-ascend-requires c κs = search needs
 
 returns-3 : tie.Need-returns-3
 returns-3 c =
@@ -26,4 +20,4 @@ returns-3 c =
     c .ids-ascend .ensures ∙ table-by-ids t (omega arith) (omega (arith, hashes-length t))
 
 pub is-table-spec : {M : Type 1} → statement M
-is-table-spec = tie.close (tie.spec returns count-requires returns-2 ids-ascend-requires returns-3)
+is-table-spec = tie.close (tie.spec returns (λ c κs. search needs) returns-2 (λ c κs. search needs) returns-3)
