@@ -21,7 +21,7 @@ use Rattle.message.specs.declared.kinds.Message.the-variants.{Ibf, IbfLa
 use Rattle.message.specs.Layout.{DEMAND, INQUIRY, OFFER, IBF, ELEMENT, IBF-LAST, DONE, Content, slice, inquiry, offer, demand, element, done, Good, Many, Slice, layout, framed, inSlice, sliceType, sliceBytes}
 use Rattle.message.specs.Reading.{field, content, head, sliceIn, sliceFits, parse, parseBody, parseSlice, parseInquiry, hashesFit}
 use Rattle.message.proofs.FrameLaws.{framed-length, framed-size, framed-type, framed-drop, framed-field}
-use Rattle.message.proofs.ReadLaws.{both, typed, Fits, fits, slice-fields}
+use Rattle.message.proofs.ReadLaws.{both, typed, Ranges, slice-ranges, slice-fields}
 use Rattle.message.proofs.WholeLaws.{packed-one, packed-two, packed-cons, packed-nil, field-here, field-there, drop-field, whole}
 
 pub record Kept (m : Content) : Type 0 where
@@ -209,8 +209,8 @@ slices size offset salt width ids hashes counts good =
     fitting : sliceFits t size offset salt width (length bs) ≡ true
     fitting = and-holds (and-holds (good .ranges) (eq-eqb t t refl)) (eq-eqb (length bs) (sliceBytes width n) all)
 
-    r : Fits t size offset salt width (length bs)
-    r = fits t size offset salt width (length bs) fitting
+    r : Ranges t size offset salt width (length bs)
+    r = slice-ranges t size offset salt width (length bs) fitting
 
     bits : width * n ≤ 32 * 2520
     bits = mul-le-mul {m₂ = 2520} (r .most) (omega arith)

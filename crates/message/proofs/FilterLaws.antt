@@ -26,7 +26,7 @@ use Rattle.message.specs.Putting.{filterBytes, FilterPut}
 use Rattle.message.proofs.BackLaws.{All-good}
 use Rattle.message.proofs.SliceLaws.{fits-part, below-part, filter-length}
 use Rattle.message.proofs.WidthLaws.{width-smallest}
-use Rattle.message.proofs.WriteLaws.{fits-tested, wrote-there}
+use Rattle.message.proofs.WriteLaws.{room-tested, wrote-there}
 
 -- ---- the answers
 
@@ -54,7 +54,7 @@ module _ (size salt : ℕ) (c : Columns) (at : ℕ) (out : List ℕ) where
 
         pub filter-short-buffer : leb (at + n) (length out) ≡ false → write (Refused Room) out ≡ filterCall size salt c at out
         unfolding filterCall wrote
-        filter-short-buffer e = rw (counts, range, wide, fits-tested (slicesOf size salt (widthFor size (c .counts)) c) at out n bytes e)
+        filter-short-buffer e = rw (counts, range, wide, room-tested (slicesOf size salt (widthFor size (c .counts)) c) at out n bytes e)
 
         module _ (there : leb (at + n) (length out) ≡ true) where
           pub filter-put : FilterPut size w c out at
@@ -79,7 +79,7 @@ module _ (size salt : ℕ) (c : Columns) (at : ℕ) (out : List ℕ) where
           unfolding filterCall
           filter-written {p} {o} ep eo =
               let cs = slicesOf size salt (widthFor size (c .counts)) c in
-              rw (counts, range, wide, fits-tested cs at out n bytes there)
+              rw (counts, range, wide, room-tested cs at out n bytes there)
               (wrote-there cs at out n bytes refl (eo ∙ ap (λ (v : ℕ). over at (layouts (slicesOf size salt v c)) out) ew) (ep ∙ ap (λ (m : ℕ). at + m) (sym en)))
 
 -- ---- what was written

@@ -18,7 +18,7 @@ use Rattle.message.specs.Writing.{layouts, pieces, write, wrote, hashesC
 use Rattle.message.specs.Putting.{cutBytes, endToEnd, framedHashes}
 use Rattle.message.proofs.CutLaws.{cut-length, layouts-map}
 use Rattle.message.proofs.HashLaws.{framed-hashes-length}
-use Rattle.message.proofs.WriteLaws.{fits-tested, wrote-there}
+use Rattle.message.proofs.WriteLaws.{room-tested, wrote-there}
 
 module _ (say : List ℕ → Content) (kind : ℕ) (lays : (hs : List ℕ) → layout (say hs) ≡ framedHashes kind hs) (t : List ℕ) (at : ℕ) (out : List ℕ) where
   abbrev cs : List Content
@@ -39,11 +39,11 @@ module _ (say : List ℕ → Content) (kind : ℕ) (lays : (hs : List ℕ) → l
   module _ (whole : length t % 64 ≡ 0) {total : ℕ} (e : total ≡ cutBytes 1023 4 64 (length t / 64)) {r : Bool} (tested : r ≡ leb (at + total) (length out)) where
     pub hashes-refused : not r ≡ true → write (Refused Room) out ≡ hashesCall (λ hs. map say (pieces 1023 hs)) t at out
     unfolding hashesCall wrote
-    hashes-refused h = rw (eq-eqb (length t % 64) 0 whole, fits-tested cs at out total (size e) (test-refused tested h))
+    hashes-refused h = rw (eq-eqb (length t % 64) 0 whole, room-tested cs at out total (size e) (test-refused tested h))
 
     pub hashes-written : {out' : List ℕ} → not r ≡ false → out' ≡ over at (endToEnd (framedHashes kind) (pieces 1023 (hashesOf t))) out
         → write (To (at + total)) out' ≡ hashesCall (λ hs. map say (pieces 1023 hs)) t at out
     unfolding hashesCall
     hashes-written h o =
-        rw (eq-eqb (length t % 64) 0 whole, fits-tested cs at out total (size e) (test-granted tested h))
+        rw (eq-eqb (length t % 64) 0 whole, room-tested cs at out total (size e) (test-granted tested h))
         (wrote-there cs at out total (size e) laid o (omega arith))

@@ -1,4 +1,4 @@
--- The definition of reading, along the ways of the code: what `parse` and `parseSlice` are where their tests are known, and what holds of a slice that fits.
+-- The definition of reading, along the ways of the code: what `parse` and `parseSlice` are where their tests are known, and the ranges of a slice that fits.
 -- Assumes nothing.
 use mathlib.Core.Path.{_≡_}
 use mathlib.Core.Bool.{Bool, true, false, _&&_, _||_, and-eq-true-iff}
@@ -32,8 +32,8 @@ pub typed : (bs : List ℕ) (t : ℕ) → 4 ≤ length bs → field 2 0 bs ≡ l
 unfolding parse
 typed bs t l h e = rw (le-leb 4 (length bs) l, eq-eqb (field 2 0 bs) (length bs) h, e)
 
--- what fits
-pub record Fits (type size offset salt width len : ℕ) : Type 0 where
+-- the ranges of a slice that fits
+pub record Ranges (type size offset salt width len : ℕ) : Type 0 where
   pub low : 37 ≤ size
   pub high : size ≤ 4096
   pub start : (eqb offset 0 || eqb offset 2520) ≡ true
@@ -44,8 +44,8 @@ pub record Fits (type size offset salt width len : ℕ) : Type 0 where
   pub kind : type ≡ sliceType size offset
   pub all : len ≡ sliceBytes width (inSlice size offset)
 
-pub fits : (type size offset salt width len : ℕ) → sliceFits type size offset salt width len ≡ true → Fits type size offset salt width len
-fits type size offset salt width len h =
+pub slice-ranges : (type size offset salt width len : ℕ) → sliceFits type size offset salt width len ≡ true → Ranges type size offset salt width len
+slice-ranges type size offset salt width len h =
     let h8 = both _ _ h in
     let h7 = both _ _ (h8 .0) in
     let h6 = both _ _ (h7 .0) in

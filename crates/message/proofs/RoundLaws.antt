@@ -28,7 +28,7 @@ use Rattle.filter.proofs.GrantedLaws.{number-zero}
 use Rattle.filter.proofs.TableLaws.{hash-at, hash-past}
 use Rattle.message.specs.declared.kinds.Wrote.the-variants.{To, Refused}
 use Rattle.message.specs.Layout.{Content, element, done}
-use Rattle.message.specs.Writing.{layouts, inquiriesOf, offersOf, demandsOf, widthFor, slicesOf, fits, Write, write, wrote, inquiryCall, hashesCall, elementCall, doneCall, filterCall}
+use Rattle.message.specs.Writing.{layouts, inquiriesOf, offersOf, demandsOf, widthFor, slicesOf, haveRoom, Write, write, wrote, inquiryCall, hashesCall, elementCall, doneCall, filterCall}
 use Rattle.message.proofs.BackLaws.{All-good, Walks, walked-back}
 use Rattle.message.proofs.FilterLaws.{filter-good}
 use Rattle.message.proofs.PieceLaws.{inquiries-good, offers-good, demands-good}
@@ -66,8 +66,8 @@ module _ (r : Refusal) (cs : List Content) (at next : ℕ) (out out′ : List �
   wrote-all =
       ap (λ (q : Refusal). cond (eqb (refusalNumber q) 0) (write (To (at + length (layouts cs))) (over at (layouts cs) out)) (write (Refused q) out)) (sym wrote-none) ∙ e
 
-  wrote-back : fits cs at out ≡ true → All-good cs → ReadBack cs at next out′
-  unfolding fits
+  wrote-back : haveRoom cs at out ≡ true → All-good cs → ReadBack cs at next out′
+  unfolding haveRoom
   wrote-back room good =
       let q : To (at + length (layouts cs)) ≡ To next = ap (λ (w : Write). w .answer) wrote-all in
       record {
@@ -88,7 +88,7 @@ module _ (at next : ℕ) (out out′ : List ℕ) where
   unfolding inquiryCall
   inquiry-back salt ids below e =
       let cs = inquiriesOf salt ids in
-      let t = both-hold Range Room (ltb salt 64) (fits cs at out) (tried Range refl) (tried Room refl) (wrote-none _ cs at next out out′ e) in
+      let t = both-hold Range Room (ltb salt 64) (haveRoom cs at out) (tried Range refl) (tried Room refl) (wrote-none _ cs at next out out′ e) in
       wrote-back _ cs at next out out′ e (t .1) (inquiries-good salt ids (t .0) below)
 
   hashes-back : (say : List ℕ → List Content) (bytes : List ℕ) → All-good (say (hashesOf bytes)) → hashesCall say bytes at out ≡ write (To next) out′
@@ -96,7 +96,7 @@ module _ (at next : ℕ) (out out′ : List ℕ) where
   unfolding hashesCall
   hashes-back say bytes good e =
       let cs = say (hashesOf bytes) in
-      let t = both-hold Form Room (eqb (length bytes % 64) 0) (fits cs at out) (tried Form refl) (tried Room refl) (wrote-none _ cs at next out out′ e) in
+      let t = both-hold Form Room (eqb (length bytes % 64) 0) (haveRoom cs at out) (tried Form refl) (tried Room refl) (wrote-none _ cs at next out out′ e) in
       wrote-back _ cs at next out out′ e (t .1) good
 
   pub offer-back : (bytes : List ℕ) → hashesCall offersOf bytes at out ≡ write (To next) out′ → ReadBack (offersOf (hashesOf bytes)) at next out′
@@ -109,15 +109,15 @@ module _ (at next : ℕ) (out out′ : List ℕ) where
   unfolding elementCall
   element-back bytes below e =
       let cs = element bytes ∷ [] in
-      let t = both-hold Room Malformed (fits cs at out) (leb 1 (length bytes) && leb (length bytes) 65531) (tried Room refl) (tried Malformed refl) (wrote-none _ cs at next out out′ e) in
+      let t = both-hold Room Malformed (haveRoom cs at out) (leb 1 (length bytes) && leb (length bytes) 65531) (tried Room refl) (tried Malformed refl) (wrote-none _ cs at next out out′ e) in
       wrote-back _ cs at next out out′ e (t .0) (record { number = t .1; fit = below }, tt)
 
   pub done-back : (check : List ℕ) → doneCall check at out ≡ write (To next) out′ → ReadBack (done (joined 8 (take 64 check)) ∷ []) at next out′
   unfolding doneCall
   done-back check e =
       let cs = done (joined 8 (take 64 check)) ∷ [] in
-      let t = first-holds Room (leb 64 (length check) && fits cs at out) [] (tried Room refl) (wrote-none _ cs at next out out′ e) in
-      wrote-back _ cs at next out out′ e (both (leb 64 (length check)) (fits cs at out) (t .0) .1) (field-lt 64 0 check, tt)
+      let t = first-holds Room (leb 64 (length check) && haveRoom cs at out) [] (tried Room refl) (wrote-none _ cs at next out out′ e) in
+      wrote-back _ cs at next out out′ e (both (leb 64 (length check)) (haveRoom cs at out) (t .0) .1) (field-lt 64 0 check, tt)
 
 pub filter-back : (at next : ℕ) (out out′ : List ℕ) (size salt : ℕ) (c : Columns) → Below 64 (c .idsums) → Below 32 (c .hashsums)
     → filterCall size salt c at out ≡ write (To next) out′ → ReadBack (slicesOf size salt (widthFor size (c .counts)) c) at next out′
@@ -125,8 +125,8 @@ unfolding filterCall
 filter-back at next out out′ size salt c ids hashes e =
     let width = widthFor size (c .counts) in
     let cs = slicesOf size salt width c in
-    let one = first-holds Form (areCounts size (c .counts)) ((Range, inRange size salt) ∷ (Room, hasRoom size c && fits cs at out) ∷ []) (tried Form refl) (wrote-none _ cs at next out out′ e) in
-    let two = both-hold Range Room (inRange size salt) (hasRoom size c && fits cs at out) (tried Range refl) (tried Room refl) (one .1) in
-    let three = both (hasRoom size c) (fits cs at out) (two .1) in
+    let one = first-holds Form (areCounts size (c .counts)) ((Range, inRange size salt) ∷ (Room, hasRoom size c && haveRoom cs at out) ∷ []) (tried Form refl) (wrote-none _ cs at next out out′ e) in
+    let two = both-hold Range Room (inRange size salt) (hasRoom size c && haveRoom cs at out) (tried Range refl) (tried Room refl) (one .1) in
+    let three = both (hasRoom size c) (haveRoom cs at out) (two .1) in
     wrote-back _ cs at next out out′ e (three .1)
     (filter-good size salt c (one .0) (two .0) (three .0) (take-below 64 size (c .idsums) ids) (take-below 32 size (c .hashsums) hashes))

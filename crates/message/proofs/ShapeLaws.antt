@@ -15,7 +15,7 @@ use Rattle.message.specs.declared.kinds.Message.{Message}
 use Rattle.message.specs.declared.kinds.Message.the-variants.{Ibf, IbfLast, Inquiry, Offer, Demand, Element, Done, Malformed}
 use Rattle.message.specs.Layout.{DEMAND, INQUIRY, OFFER, IBF, ELEMENT, IBF-LAST, DONE, inSlice, sliceBytes, sliceGood}
 use Rattle.message.specs.Reading.{field, sliceFits, sliceHead, hashesFit, parse, parseBody, parseSlice, parseInquiry}
-use Rattle.message.proofs.ReadLaws.{both, Fits, fits}
+use Rattle.message.proofs.ReadLaws.{both, Ranges, slice-ranges}
 
 -- what holds of whichever way a test goes holds of what it picks
 pub choose : {A : Type 0} (P : A → Type 0) (b : Bool) {x y : A} → (b ≡ true → P x) → (b ≡ false → P y) → P (cond b x y)
@@ -25,7 +25,7 @@ choose P false f g = g refl
 -- bytes that were read as a slice of the type: its ranges, its n buckets, its bytes, and its spare bits
 pub record Sliced (bs : List ℕ) (type size offset salt width n : ℕ) : Type 0 where
   pub good : sliceGood size offset salt width ≡ true
-  pub fit : Fits type size offset salt width (length bs)
+  pub fit : Ranges type size offset salt width (length bs)
   pub number : n ≡ inSlice size offset
   pub few : n ≤ 2520
   pub all : length bs ≡ sliceBytes width n
@@ -45,7 +45,7 @@ module _ (bs : List ℕ) (t size offset salt width : ℕ) where
   sliced : sliceFits t size offset salt width (length bs) ≡ true → isBare width (inSlice size offset) (16 + 12 * inSlice size offset) bs ≡ true
       → Sliced bs t size offset salt width (inSlice size offset)
   sliced h z =
-      let f = fits t size offset salt width (length bs) h in
+      let f = slice-ranges t size offset salt width (length bs) h in
       record {
         good = both _ _ (both _ _ h .0) .0;
         fit = f;

@@ -20,7 +20,7 @@ use Rattle.message.specs.declared.kinds.Message.the-variants.{Inquiry, O
 use Rattle.message.specs.Layout.{DEMAND, INQUIRY, OFFER, IBF, ELEMENT, IBF-LAST, DONE, Good, Many, Slice, slice, layout, framed, inSlice, sliceType}
 use Rattle.message.specs.Reading.{field, content, head, sliceFits, sliceHead, parse, parseBody, parseSlice, parseInquiry, hashesFit}
 use Rattle.message.proofs.FrameLaws.{framed-back}
-use Rattle.message.proofs.ReadLaws.{both, Fits, fits}
+use Rattle.message.proofs.ReadLaws.{both, Ranges, slice-ranges}
 use Rattle.message.proofs.ShapeLaws.{choose}
 use Rattle.message.proofs.WholeLaws.{whole-back, one-back, two-back, packed-cons, packed-nil, part-rest, part-below, drop-below}
 
@@ -151,8 +151,8 @@ module _ (bs : List ℕ) (below : Below 8 bs) (four : 4 ≤ length bs) (size : f
       zs : List ℕ
       zs = countersAt width n (16 + 12 * n) bs
 
-      f : Fits t size' offset salt width (length bs)
-      f = fits t size' offset salt width (length bs) g
+      f : Ranges t size' offset salt width (length bs)
+      f = slice-ranges t size' offset salt width (length bs) g
 
       all : length bs ≡ 16 + 12 * n + bytesFor (width * n)
       all = f .all

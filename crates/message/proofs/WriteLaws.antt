@@ -14,7 +14,7 @@ use Rattle.bucket.proofs.TestLaws.{test-granted}
 use Rattle.filter.specs.declared.answers.Refusal.the-variants.{None}
 use Rattle.message.specs.declared.kinds.Wrote.the-variants.{To}
 use Rattle.message.specs.Layout.{Content, inquiry, layout, framed}
-use Rattle.message.specs.Writing.{layouts, fits, write, wrote}
+use Rattle.message.specs.Writing.{layouts, haveRoom, write, wrote}
 use Rattle.message.proofs.FrameLaws.{framed-length}
 use Rattle.message.proofs.WholeLaws.{packed-one, whole-length}
 
@@ -52,9 +52,9 @@ pub room-there : (at n room : ℕ) {r : Bool} → r ≡ leb (at + n) room → no
 room-there at n room e h = leb-true (at + n) room (test-granted e h)
 
 module _ (cs : List Content) (at : ℕ) (out : List ℕ) (total : ℕ) (size : length (layouts cs) ≡ total) where
-  pub fits-tested : {t : Bool} → leb (at + total) (length out) ≡ t → fits cs at out ≡ t
-  unfolding fits
-  fits-tested h = ap (λ (n : ℕ). leb (at + n) (length out)) size ∙ h
+  pub room-tested : {t : Bool} → leb (at + total) (length out) ≡ t → haveRoom cs at out ≡ t
+  unfolding haveRoom
+  room-tested h = ap (λ (n : ℕ). leb (at + n) (length out)) size ∙ h
 
   pub wrote-there : {bytes out' : List ℕ} {next : ℕ} → layouts cs ≡ bytes → out' ≡ over at bytes out → next ≡ at + total → write (To next) out' ≡ wrote None cs at out
   unfolding wrote

@@ -5,10 +5,10 @@
 --   inquiriesOf s ids   INQUIRY messages for a list of IDs; offersOf, demandsOf: for hashes
 --   widthFor n cs       the smallest width for the first n counts
 --   slicesOf ..         a whole filter as one slice or two
---   fits cs at out      the messages lie within the buffer
+--   haveRoom cs at out  the messages lie within the buffer
 --   wrote r cs at out   what a writer answers and leaves: the next position with the messages written, or the refusal and everything unchanged
 --   inquiryCall ..      the writers, each with its refusals in the order in which they are tried
---   leftBy w            the same with the answer as numbers, for C
+--   writeNumbers w      the same with the answer as numbers, for C
 --
 -- Laws (proofs/RoundLaws): a writer's answer is read back, message by message; (proofs/PieceLaws): the pieces are the list, and each is in range;
 -- (proofs/WidthLaws): width-smallest.
@@ -80,8 +80,8 @@ unfoldable pub slicesOf : ℕ → ℕ → ℕ → Columns → List Content
 slicesOf size salt width c =
     sliceAt size 0 salt width c ∷ cond (ltb 2520 size) (sliceAt size 2520 salt width c ∷ []) []
 
-unfoldable pub fits : List Content → ℕ → List ℕ → Bool
-fits cs at out = leb (at + length (layouts cs)) (length out)
+unfoldable pub haveRoom : List Content → ℕ → List ℕ → Bool
+haveRoom cs at out = leb (at + length (layouts cs)) (length out)
 
 pub record Write : Type 0 where
   pub answer : Wrote
@@ -98,32 +98,32 @@ wrote r cs at out =
 unfoldable pub inquiryCall : ℕ → List ℕ → ℕ → List ℕ → Write
 inquiryCall salt ids at out =
     let cs = inquiriesOf salt ids in
-    wrote (firstOf ((Range, ltb salt 64) ∷ (Room, fits cs at out) ∷ [])) cs at out
+    wrote (firstOf ((Range, ltb salt 64) ∷ (Room, haveRoom cs at out) ∷ [])) cs at out
 
 -- 1 where the bytes are not whole hashes, 2; say makes the messages, offersOf or demandsOf
 unfoldable pub hashesCall : (List ℕ → List Content) → List ℕ → ℕ → List ℕ → Write
 hashesCall say bytes at out =
     let cs = say (hashesOf bytes) in
-    wrote (firstOf ((Form, eqb (length bytes % 64) 0) ∷ (Room, fits cs at out) ∷ [])) cs at out
+    wrote (firstOf ((Form, eqb (length bytes % 64) 0) ∷ (Room, haveRoom cs at out) ∷ [])) cs at out
 
 -- 2, then 4 for a content that no message can hold
 unfoldable pub elementCall : List ℕ → ℕ → List ℕ → Write
 elementCall bytes at out =
     let cs = element bytes ∷ [] in
-    wrote (firstOf ((Room, fits cs at out) ∷ (Malformed, leb 1 (length bytes) && leb (length bytes) 65531) ∷ [])) cs at out
+    wrote (firstOf ((Room, haveRoom cs at out) ∷ (Malformed, leb 1 (length bytes) && leb (length bytes) 65531) ∷ [])) cs at out
 
 -- 2, for a checksum of fewer than 64 bytes too
 unfoldable pub doneCall : List ℕ → ℕ → List ℕ → Write
 doneCall check at out =
     let cs = done (joined 8 (take 64 check)) ∷ [] in
-    wrote (firstOf ((Room, leb 64 (length check) && fits cs at out) ∷ [])) cs at out
+    wrote (firstOf ((Room, leb 64 (length check) && haveRoom cs at out) ∷ [])) cs at out
 
 -- 1 for a COUNT among the first size places, 3, 2
 unfoldable pub filterCall : ℕ → ℕ → Columns → ℕ → List ℕ → Write
 filterCall size salt c at out =
     let cs = slicesOf size salt (widthFor size (c .counts)) c in
     wrote
-    (firstOf ((Form, areCounts size (c .counts)) ∷ (Range, inRange size salt) ∷ (Room, hasRoom size c && fits cs at out) ∷ []))
+    (firstOf ((Form, areCounts size (c .counts)) ∷ (Range, inRange size salt) ∷ (Room, hasRoom size c && haveRoom cs at out) ∷ []))
     cs at out
 
 -- an answer as numbers: the refusal, and the next position, 0 where it is refused
@@ -138,5 +138,5 @@ pub record Left : Type 0 where
 abbrev pub left : Written → List ℕ → Left
 left w out = record { answer = w; out = out }
 
-abbrev pub leftBy : Write → Left
-leftBy w = left (writtenOf (w .answer)) (w .out)
+abbrev pub writeNumbers : Write → Left
+writeNumbers w = left (writtenOf (w .answer)) (w .out)

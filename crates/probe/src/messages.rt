@@ -5,7 +5,7 @@ ghost use lib.ListN.{length};
 ghost use Rattle.bucket.specs.Digits.{joined};
 ghost use Rattle.bucket.specs.Lists.{part};
 ghost use Rattle.message.specs.Items.{idAt, idsumAt, hashsumAt, counterOf, hashPart, contentOf};
-ghost use Rattle.message.specs.Writing.{left, leftBy, inquiryCall, hashesCall, offersOf, demandsOf, doneCall};
+ghost use Rattle.message.specs.Writing.{left, writeNumbers, inquiryCall, hashesCall, offersOf, demandsOf, doneCall};
 use message::kinds::Written;
 
 #[no_mangle]
@@ -15,28 +15,28 @@ pub extern "C" fn tandawire_inquiry_write(
     out: &mut [u8],
     at: usize,
 ) -> Written
-    ensures { λ r. ⌜ left r (now (out .exit)) ≡ leftBy (inquiryCall salt (now (ids .entry)) at (now (out .entry))) ⌝ }
+    ensures { λ r. ⌜ left r (now (out .exit)) ≡ writeNumbers (inquiryCall salt (now (ids .entry)) at (now (out .entry))) ⌝ }
 {
     message::kinds::write_numbers(message::writing::inquiry(ids, salt, out, at))
 }
 
 #[no_mangle]
 pub extern "C" fn tandawire_offer_write(hashes: &[u8], out: &mut [u8], at: usize) -> Written
-    ensures { λ r. ⌜ left r (now (out .exit)) ≡ leftBy (hashesCall offersOf (now (hashes .entry)) at (now (out .entry))) ⌝ }
+    ensures { λ r. ⌜ left r (now (out .exit)) ≡ writeNumbers (hashesCall offersOf (now (hashes .entry)) at (now (out .entry))) ⌝ }
 {
     message::kinds::write_numbers(message::writing::offer(hashes, out, at))
 }
 
 #[no_mangle]
 pub extern "C" fn tandawire_demand_write(hashes: &[u8], out: &mut [u8], at: usize) -> Written
-    ensures { λ r. ⌜ left r (now (out .exit)) ≡ leftBy (hashesCall demandsOf (now (hashes .entry)) at (now (out .entry))) ⌝ }
+    ensures { λ r. ⌜ left r (now (out .exit)) ≡ writeNumbers (hashesCall demandsOf (now (hashes .entry)) at (now (out .entry))) ⌝ }
 {
     message::kinds::write_numbers(message::writing::demand(hashes, out, at))
 }
 
 #[no_mangle]
 pub extern "C" fn tandawire_done_write(check: &[u8], out: &mut [u8], at: usize) -> Written
-    ensures { λ r. ⌜ left r (now (out .exit)) ≡ leftBy (doneCall (now (check .entry)) at (now (out .entry))) ⌝ }
+    ensures { λ r. ⌜ left r (now (out .exit)) ≡ writeNumbers (doneCall (now (check .entry)) at (now (out .entry))) ⌝ }
 {
     message::kinds::write_numbers(message::writing::done(check, out, at))
 }

@@ -6,7 +6,7 @@ ghost use Rattle.filter.specs.Calls.{built};
 ghost use Rattle.message.specs.Reading.{numbersOf};
 ghost use Rattle.message.specs.Laying.{layNumbers, layCall};
 ghost use Rattle.message.specs.Walking.{exactlyOne, walkAt, walkNumbers};
-ghost use Rattle.message.specs.Writing.{left, leftBy, elementCall, filterCall};
+ghost use Rattle.message.specs.Writing.{left, writeNumbers, elementCall, filterCall};
 use message::kinds::Numbers;
 use message::kinds::Written;
 
@@ -29,7 +29,7 @@ pub extern "C" fn tandawire_message_at(buffer: &[u8], at: usize) -> Numbers
 // One ELEMENT, from a position of a buffer.
 #[no_mangle]
 pub extern "C" fn tandawire_element_write(content: &[u8], out: &mut [u8], at: usize) -> Written
-    ensures { λ r. ⌜ left r (now (out .exit)) ≡ leftBy (elementCall (now (content .entry)) at (now (out .entry))) ⌝ }
+    ensures { λ r. ⌜ left r (now (out .exit)) ≡ writeNumbers (elementCall (now (content .entry)) at (now (out .entry))) ⌝ }
 {
     message::kinds::write_numbers(message::writing::element(content, out, at))
 }
@@ -46,7 +46,7 @@ pub extern "C" fn tandawire_filter_write(
     at: usize,
 ) -> Written
     ensures { λ r. ⌜ left r (now (out .exit))
-        ≡ leftBy (filterCall size salt (columns (now (ids .entry)) (now (hashes .entry)) (now (counts .entry))) at (now (out .entry))) ⌝ }
+        ≡ writeNumbers (filterCall size salt (columns (now (ids .entry)) (now (hashes .entry)) (now (counts .entry))) at (now (out .entry))) ⌝ }
 {
     message::kinds::write_numbers(message::filters::filter(
         ids,

@@ -13,7 +13,7 @@ use Rattle.message.specs.Layout.{done, layout, framed}
 use Rattle.message.specs.Writing.{layouts, wrote, doneCall}
 use Rattle.message.proofs.FrameLaws.{framed-length}
 use Rattle.message.proofs.WholeLaws.{one-back, whole-length}
-use Rattle.message.proofs.WriteLaws.{layouts-one, fits-tested, room-there, wrote-there}
+use Rattle.message.proofs.WriteLaws.{layouts-one, room-tested, room-there, wrote-there}
 use Rattle.message.proofs.writing.done.Statement.{statement}
 use Rattle.message.proofs.writing.done.Tie as tie
 
@@ -39,7 +39,7 @@ returns-2 c =
     let x = joined 8 (take 64 (a .check .now)) in
     rw (
       le-leb 64 (length (a .check .now)) (omega arith),
-      fits-tested (done x ∷ []) (a .at) (a .out .now) 68 (size x) (test-refused (c .before .has-room .ensures) (c .if2 .taken)),
+      room-tested (done x ∷ []) (a .at) (a .out .now) 68 (size x) (test-refused (c .before .has-room .ensures) (c .if2 .taken)),
     )
 
 put-framed-requires : tie.Need-put-framed-requires
@@ -66,7 +66,7 @@ returns-3 c =
     let x = joined 8 (take 64 check) in
     rw (
       le-leb 64 (length check) (omega arith),
-      fits-tested (done x ∷ []) (a .at) (a .out .now) 68 (size x) (test-granted (c .before .before .before .before .before .has-room .ensures) (c .before .before .before .before .if2 .left)),
+      room-tested (done x ∷ []) (a .at) (a .out .now) 68 (size x) (test-granted (c .before .before .before .before .before .has-room .ensures) (c .before .before .before .before .if2 .left)),
     )
     (wrote-there (done x ∷ []) (a .at) (a .out .now) 68 (size x) (laid check (λ n. known .shared-slice-known .given n .fits) (omega arith)) (c .before .before .put-framed .ensures) (omega arith))
 

@@ -13,7 +13,7 @@ use Rattle.bucket.proofs.TestLaws.{test-refused, test-granted}
 use Rattle.message.specs.Layout.{element, layout, framed}
 use Rattle.message.specs.Writing.{layouts, wrote, elementCall}
 use Rattle.message.proofs.FrameLaws.{framed-length}
-use Rattle.message.proofs.WriteLaws.{layouts-one, fits-tested, room-there, wrote-there}
+use Rattle.message.proofs.WriteLaws.{layouts-one, room-tested, room-there, wrote-there}
 use Rattle.message.proofs.writing.element.Statement.{statement}
 use Rattle.message.proofs.writing.element.Tie as tie
 
@@ -34,7 +34,7 @@ returns : tie.Need-returns
 unfolding elementCall wrote
 returns c =
     let a = c .before .before .before .before .args in
-    rw (fits-tested (element (a .content .now) ∷ []) (a .at) (a .out .now) (4 + length (a .content .now)) (size (a .content .now)) (test-refused (c .before .has-room .ensures) (c .if1 .taken)))
+    rw (room-tested (element (a .content .now) ∷ []) (a .at) (a .out .now) (4 + length (a .content .now)) (size (a .content .now)) (test-refused (c .before .has-room .ensures) (c .if1 .taken)))
 
 returns-2 : tie.Need-returns-2
 unfolding elementCall wrote
@@ -42,7 +42,7 @@ returns-2 c =
     let a = c .before .before .before .before .before .args in
     let bytes = a .content .now in
     rw (
-      fits-tested (element bytes ∷ []) (a .at) (a .out .now) (4 + length bytes) (size bytes) (test-granted (c .before .before .has-room .ensures) (c .before .if1 .left)),
+      room-tested (element bytes ∷ []) (a .at) (a .out .now) (4 + length bytes) (size bytes) (test-granted (c .before .before .has-room .ensures) (c .before .if1 .left)),
       lt-leb 1 (length bytes) (omega arith),
     )
 
@@ -52,7 +52,7 @@ returns-3 c =
     let a = c .before .before .before .before .before .before .args in
     let bytes = a .content .now in
     rw (
-      fits-tested (element bytes ∷ []) (a .at) (a .out .now) (4 + length bytes) (size bytes) (test-granted (c .before .before .before .has-room .ensures) (c .before .before .if1 .left)),
+      room-tested (element bytes ∷ []) (a .at) (a .out .now) (4 + length bytes) (size bytes) (test-granted (c .before .before .before .has-room .ensures) (c .before .before .if1 .left)),
       le-leb 1 (length bytes) (omega arith),
       lt-leb (length bytes) 65531 (omega arith),
     )
@@ -85,7 +85,7 @@ returns-4 c =
     let bytes = a .content .now in
     let all = take-all (length bytes) bytes (omega arith) in
     rw (
-      fits-tested (element bytes ∷ []) (a .at) (a .out .now) (4 + length bytes) (size bytes) (test-granted (c .before .before .before .before .before .before .before .has-room .ensures) (c .before .before .before .before .before .before .if1 .left)),
+      room-tested (element bytes ∷ []) (a .at) (a .out .now) (4 + length bytes) (size bytes) (test-granted (c .before .before .before .before .before .before .before .has-room .ensures) (c .before .before .before .before .before .before .if1 .left)),
       le-leb 1 (length bytes) (omega arith),
       le-leb (length bytes) 65531 (omega arith),
     )

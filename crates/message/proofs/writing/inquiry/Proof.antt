@@ -12,7 +12,7 @@ use Rattle.message.specs.Layout.{inquiry, layout}
 use Rattle.message.specs.Writing.{layouts, pieces, inquiriesOf, wrote, inquiryCall}
 use Rattle.message.specs.Putting.{cutBytes, endToEnd}
 use Rattle.message.proofs.CutLaws.{cut-length, layouts-map}
-use Rattle.message.proofs.WriteLaws.{inquiry-length, fits-tested, room-there, wrote-there}
+use Rattle.message.proofs.WriteLaws.{inquiry-length, room-tested, room-there, wrote-there}
 use Rattle.message.proofs.writing.inquiry.Statement.{statement}
 use Rattle.message.proofs.writing.inquiry.Tie as tie
 
@@ -49,7 +49,7 @@ returns-2 c =
     let ids = a .ids .now in
     rw (
       lt-ltb (a .salt) 64 (omega arith),
-      fits-tested (inquiriesOf (a .salt) ids) (a .at) (a .out .now) (cutBytes 8190 8 8 (length ids)) (size (a .salt) ids) (test-refused (c .before .has-room .ensures) (c .if2 .taken)),
+      room-tested (inquiriesOf (a .salt) ids) (a .at) (a .out .now) (cutBytes 8190 8 8 (length ids)) (size (a .salt) ids) (test-refused (c .before .has-room .ensures) (c .if2 .taken)),
     )
 
 put-inquiries-requires : tie.Need-put-inquiries-requires
@@ -73,7 +73,7 @@ returns-3 c =
     let ids = a .ids .now in
     rw (
       lt-ltb (a .salt) 64 (omega arith),
-      fits-tested (inquiriesOf (a .salt) ids) (a .at) (a .out .now) (cutBytes 8190 8 8 (length ids)) (size (a .salt) ids) (test-granted (c .before .before .before .before .before .has-room .ensures) (c .before .before .before .before .if2 .left)),
+      room-tested (inquiriesOf (a .salt) ids) (a .at) (a .out .now) (cutBytes 8190 8 8 (length ids)) (size (a .salt) ids) (test-granted (c .before .before .before .before .before .has-room .ensures) (c .before .before .before .before .if2 .left)),
     )
     (wrote-there (inquiriesOf (a .salt) ids) (a .at) (a .out .now) (cutBytes 8190 8 8 (length ids)) (size (a .salt) ids) (laid (a .salt) ids) (c .before .before .put-inquiries .ensures) (omega arith))
 

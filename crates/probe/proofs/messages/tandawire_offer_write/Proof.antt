@@ -1,6 +1,6 @@
 -- `messages::tandawire_offer_write` meets its contract, which is that of `writing::offer` with its answer as numbers. Assumes nothing.
 use mathlib.Core.Path.{ap}
-use Rattle.message.specs.Writing.{leftBy}
+use Rattle.message.specs.Writing.{writeNumbers}
 use borrow.Author.Needs.{needs}
 use Rattle.probe.proofs.messages.tandawire_offer_write.Statement.{statement}
 use Rattle.probe.proofs.messages.tandawire_offer_write.Tie as tie
@@ -15,7 +15,7 @@ same-length : tie.Need-same-length
 same-length c = search needs
 
 returns : tie.Need-returns
-returns c = rw (c .write-numbers .ensures) (ap leftBy (c .before .before .before .offer .ensures))
+returns c = rw (c .write-numbers .ensures) (ap writeNumbers (c .before .before .before .offer .ensures))
 
 pub tandawire-offer-write-spec : {M : Type 1} → statement M
 tandawire-offer-write-spec =
