@@ -17,9 +17,12 @@ use lib.ListN.{length, drop}
 use Rattle.bucket.specs.Digits.{joined, unpacked}
 use Rattle.bucket.specs.Lists.{part}
 use Rattle.bucket.specs.Packing.{countersAt, isBare}
+use Rattle.filter.specs.declared.answers.Refusal.{Refusal}
+use Rattle.filter.specs.declared.answers.Refusal.the-variants.{None}
+use Rattle.filter.specs.Answers.{refusalNumber}
 use Rattle.message.specs.declared.kinds.Message.{Message}
 use Rattle.message.specs.declared.kinds.Message.the-variants.{Ibf, IbfLast, Inquiry, Offer, Demand, Element, Done, Malformed}
-use Rattle.message.specs.declared.kinds.Numbers.{Numbers}
+use Rattle.message.specs.declared.kinds.MessageNumbers.{MessageNumbers}
 use Rattle.message.specs.Layout.{DEMAND, INQUIRY, OFFER, IBF, ELEMENT, IBF-LAST, DONE, Content, slice, inquiry, offer, demand, element, done, inSlice, sliceType, sliceBytes, sliceGood}
 
 abbrev pub field : ℕ → ℕ → List ℕ → ℕ
@@ -96,17 +99,18 @@ head (demand hashes) = Demand (length hashes)
 head (element bytes) = Element (length bytes)
 head (done check) = Done
 
--- a message from start up to next as numbers: its MSG TYPE, or 0 where it is malformed, and its numbers and count of items, or 0
-abbrev pub numbered : ℕ → ℕ → ℕ → ℕ → ℕ → ℕ → ℕ → ℕ → Numbers
-numbered kind size offset salt width count start next =
-    record { kind = kind; size = size; offset = offset; salt = salt; width = width; count = count; start = start; next = next }
+-- a message from start up to next as numbers: the refusal, its MSG TYPE, or 0 where it is malformed, and its numbers and count of items, or 0
+abbrev pub numbered : Refusal → ℕ → ℕ → ℕ → ℕ → ℕ → ℕ → ℕ → ℕ → MessageNumbers
+numbered why kind size offset salt width count start next =
+    record { refusal = refusalNumber why; kind = kind; size = size; offset = offset; salt = salt; width = width; count = count; start = start; next = next }
 
-abbrev pub numbersOf : Message → ℕ → ℕ → Numbers
-numbersOf (Ibf size offset salt width n) start next = numbered IBF size offset salt width n start next
-numbersOf (IbfLast size offset salt width n) start next = numbered IBF-LAST size offset salt width n start next
-numbersOf (Inquiry salt n) start next = numbered INQUIRY 0 0 salt 0 n start next
-numbersOf (Offer n) start next = numbered OFFER 0 0 0 0 n start next
-numbersOf (Demand n) start next = numbered DEMAND 0 0 0 0 n start next
-numbersOf (Element n) start next = numbered ELEMENT 0 0 0 0 n start next
-numbersOf Done start next = numbered DONE 0 0 0 0 1 start next
-numbersOf Malformed start next = numbered 0 0 0 0 0 0 start start
+-- refusal 4: "message malformed"
+abbrev pub numbersOf : Message → ℕ → ℕ → MessageNumbers
+numbersOf (Ibf size offset salt width n) start next = numbered None IBF size offset salt width n start next
+numbersOf (IbfLast size offset salt width n) start next = numbered None IBF-LAST size offset salt width n start next
+numbersOf (Inquiry salt n) start next = numbered None INQUIRY 0 0 salt 0 n start next
+numbersOf (Offer n) start next = numbered None OFFER 0 0 0 0 n start next
+numbersOf (Demand n) start next = numbered None DEMAND 0 0 0 0 n start next
+numbersOf (Element n) start next = numbered None ELEMENT 0 0 0 0 n start next
+numbersOf Done start next = numbered None DONE 0 0 0 0 1 start next
+numbersOf Malformed start next = numbered Refusal.Malformed 0 0 0 0 0 0 start start

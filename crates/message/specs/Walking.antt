@@ -14,9 +14,10 @@ use Prim.Native.Nat.{ℕ, _+_}
 use lib.Dec.{leb}
 use lib.ListN.{length}
 use Rattle.bucket.specs.Lists.{part}
+use Rattle.filter.specs.declared.answers.Refusal.the-variants.{None}
 use Rattle.message.specs.declared.kinds.Message.{Message}
 use Rattle.message.specs.declared.kinds.Message.the-variants.{Ibf, IbfLast, Inquiry, Offer, Demand, Element, Done, Malformed}
-use Rattle.message.specs.declared.kinds.Numbers.{Numbers}
+use Rattle.message.specs.declared.kinds.MessageNumbers.{MessageNumbers}
 use Rattle.message.specs.declared.walking.Cursor.{Cursor}
 use Rattle.message.specs.declared.walking.Walked.{Walked}
 use Rattle.message.specs.declared.walking.Walked.the-variants.{Found, Broken, End}
@@ -44,7 +45,7 @@ abbrev pub exactlyOne : List ℕ → Message
 exactlyOne s = parse s
 
 -- the end is kind 1
-abbrev pub walkNumbers : Walked → ℕ → Numbers
+abbrev pub walkNumbers : Walked → ℕ → MessageNumbers
 walkNumbers (Found m start next) at = numbersOf m start (next .at)
 walkNumbers (Broken start) at = numbersOf Malformed start start
-walkNumbers End at = numbered 1 0 0 0 0 0 at at
+walkNumbers End at = numbered None 1 0 0 0 0 0 at at

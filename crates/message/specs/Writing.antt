@@ -25,7 +25,7 @@ use Rattle.bucket.specs.Digits.{joined}
 use Rattle.bucket.specs.Lists.{over, part}
 use Rattle.bucket.specs.Packing.{numbers}
 use Rattle.filter.specs.declared.answers.Refusal.{Refusal}
-use Rattle.filter.specs.declared.answers.Refusal.the-variants.{Form, Room, Range, Malformed}
+use Rattle.filter.specs.declared.answers.Refusal.the-variants.{None, Form, Room, Range, Malformed}
 use Rattle.filter.specs.Answers.{refusalNumber, firstOf}
 use Rattle.filter.specs.Calls.{inRange, areCounts, hasRoom}
 use Rattle.filter.specs.Table.{hashesOf}
@@ -128,7 +128,7 @@ filterCall size salt c at out =
 
 -- an answer as numbers: the refusal, and the next position, 0 where it is refused
 abbrev pub writtenOf : Wrote → Written
-writtenOf (To next) = record { refusal = 0; next = next }
+writtenOf (To next) = record { refusal = refusalNumber None; next = next }
 writtenOf (Refused r) = record { refusal = refusalNumber r; next = 0 }
 
 pub record Left : Type 0 where

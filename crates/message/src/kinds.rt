@@ -1,5 +1,6 @@
 // What a message is, read into its kind and numbers; what a writer answers; and both as numbers for C.
 ghost use mathlib.Core.Path.{_≡_};
+ghost use Rattle.filter.specs.declared.answers.Refusal.the-variants.{None};
 ghost use Rattle.message.specs.Reading.{numbered, numbersOf};
 ghost use Rattle.message.specs.Writing.{writtenOf};
 use filter::answers::Refusal;
@@ -62,9 +63,10 @@ pub enum Wrote {
     Refused { why: Refusal },
 }
 
-// A message as numbers, with its place in the buffer.
+// A message as numbers: why it is refused, what it says, and its place in the buffer.
 #[repr(C)]
-pub struct Numbers {
+pub struct MessageNumbers {
+    pub refusal: u32,
     pub kind: u32,
     pub size: u32,
     pub offset: u32,
@@ -82,7 +84,7 @@ pub struct Written {
     pub next: usize,
 }
 
-pub fn message_numbers(m: Message, start: usize, next: usize) -> Numbers
+pub fn message_numbers(m: Message, start: usize, next: usize) -> MessageNumbers
     ensures { λ r. ⌜ r ≡ numbersOf m start next ⌝ }
 {
     match m {
@@ -92,24 +94,24 @@ pub fn message_numbers(m: Message, start: usize, next: usize) -> Numbers
             salt,
             width,
             count,
-        } => numbered(IBF, size, offset, salt, width, count, start, next),
+        } => found(IBF, size, offset, salt, width, count, start, next),
         Message::IbfLast {
             size,
             offset,
             salt,
             width,
             count,
-        } => numbered(IBF_LAST, size, offset, salt, width, count, start, next),
-        Message::Inquiry { salt, count } => numbered(INQUIRY, 0, 0, salt, 0, count, start, next),
-        Message::Offer { count } => numbered(OFFER, 0, 0, 0, 0, count, start, next),
-        Message::Demand { count } => numbered(DEMAND, 0, 0, 0, 0, count, start, next),
-        Message::Element { length } => numbered(ELEMENT, 0, 0, 0, 0, length, start, next),
-        Message::Done => numbered(DONE, 0, 0, 0, 0, 1, start, next),
-        Message::Malformed => numbered(0, 0, 0, 0, 0, 0, start, start),
+        } => found(IBF_LAST, size, offset, salt, width, count, start, next),
+        Message::Inquiry { salt, count } => found(INQUIRY, 0, 0, salt, 0, count, start, next),
+        Message::Offer { count } => found(OFFER, 0, 0, 0, 0, count, start, next),
+        Message::Demand { count } => found(DEMAND, 0, 0, 0, 0, count, start, next),
+        Message::Element { length } => found(ELEMENT, 0, 0, 0, 0, length, start, next),
+        Message::Done => found(DONE, 0, 0, 0, 0, 1, start, next),
+        Message::Malformed => numbered(Refusal::Malformed, 0, 0, 0, 0, 0, 0, start, start),
     }
 }
 
-pub(crate) fn numbered(
+fn found(
     kind: u32,
     size: u32,
     offset: u32,
@@ -118,10 +120,28 @@ pub(crate) fn numbered(
     count: usize,
     start: usize,
     next: usize,
-) -> Numbers
-    ensures { λ r. ⌜ r ≡ numbered kind size offset salt width count start next ⌝ }
+) -> MessageNumbers
+    ensures { λ r. ⌜ r ≡ numbered None kind size offset salt width count start next ⌝ }
 {
-    Numbers {
+    let why = Refusal::None;
+    numbered(why, kind, size, offset, salt, width, count, start, next)
+}
+
+pub(crate) fn numbered(
+    why: Refusal,
+    kind: u32,
+    size: u32,
+    offset: u32,
+    salt: u32,
+    width: u32,
+    count: usize,
+    start: usize,
+    next: usize,
+) -> MessageNumbers
+    ensures { λ r. ⌜ r ≡ numbered why kind size offset salt width count start next ⌝ }
+{
+    MessageNumbers {
+        refusal: filter::answers::refusal_number(why),
         kind: kind,
         size: size,
         offset: offset,
@@ -138,7 +158,7 @@ pub fn write_numbers(w: Wrote) -> Written
 {
     match w {
         Wrote::To { next } => Written {
-            refusal: 0,
+            refusal: filter::answers::refusal_number(Refusal::None),
             next: next,
         },
         Wrote::Refused { why } => Written {

@@ -2,7 +2,8 @@
 ghost use mathlib.Core.Path.{_≡_};
 ghost use Rattle.message.specs.Walking.{cursor, walkAt, stepOf, walkNumbers};
 use crate::kinds::Message;
-use crate::kinds::Numbers;
+use crate::kinds::MessageNumbers;
+use filter::answers::Refusal;
 
 // A position in a buffer.
 pub struct Cursor {
@@ -72,7 +73,7 @@ fn step_of(message: Message, start: usize, next: usize) -> Walked
 }
 
 // The same as numbers, for C.
-pub fn numbers_at(s: &[u8], at: usize) -> Numbers
+pub fn numbers_at(s: &[u8], at: usize) -> MessageNumbers
     ensures { λ r. ⌜ r ≡ walkNumbers (walkAt (now (s .entry)) at) at ⌝ }
 {
     let w = walk_at(s, at);
@@ -83,6 +84,6 @@ pub fn numbers_at(s: &[u8], at: usize) -> Numbers
             next,
         } => crate::kinds::message_numbers(message, start, next.at),
         Walked::Broken { start } => crate::kinds::message_numbers(Message::Malformed, start, start),
-        Walked::End => crate::kinds::numbered(1, 0, 0, 0, 0, 0, at, at),
+        Walked::End => crate::kinds::numbered(Refusal::None, 1, 0, 0, 0, 0, 0, at, at),
     }
 }

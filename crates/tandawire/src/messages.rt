@@ -7,12 +7,12 @@ ghost use Rattle.message.specs.Reading.{numbersOf};
 ghost use Rattle.message.specs.Laying.{layNumbers, layCall};
 ghost use Rattle.message.specs.Walking.{exactlyOne, walkAt, walkNumbers};
 ghost use Rattle.message.specs.Writing.{left, writeNumbers, elementCall, filterCall};
-use message::kinds::Numbers;
+use message::kinds::MessageNumbers;
 use message::kinds::Written;
 
 // The whole of the bytes as exactly one message.
 #[no_mangle]
-pub extern "C" fn tandawire_message_read(message: &[u8]) -> Numbers
+pub extern "C" fn tandawire_message_read(message: &[u8]) -> MessageNumbers
     ensures { λ r. ⌜ r ≡ numbersOf (exactlyOne (now (message .entry))) 0 (length (now (message .entry))) ⌝ }
 {
     message::kinds::message_numbers(message::reading::read(message), 0, message.len())
@@ -20,7 +20,7 @@ pub extern "C" fn tandawire_message_read(message: &[u8]) -> Numbers
 
 // The message at a position of a buffer.
 #[no_mangle]
-pub extern "C" fn tandawire_message_at(buffer: &[u8], at: usize) -> Numbers
+pub extern "C" fn tandawire_message_at(buffer: &[u8], at: usize) -> MessageNumbers
     ensures { λ r. ⌜ r ≡ walkNumbers (walkAt (now (buffer .entry)) at) at ⌝ }
 {
     message::walking::numbers_at(buffer, at)
