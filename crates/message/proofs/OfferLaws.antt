@@ -1,5 +1,5 @@
 -- A writer of hashes, over the message that holds them: what its messages' bytes are, and its answer at each of its tests. Assumes nothing.
-use mathlib.Core.Path.{_≡_, sym, ap, _∙_}
+use mathlib.Core.Path.{_≡_, refl, sym, ap, _∙_}
 use mathlib.Core.Bool.{Bool, true, false, not}
 use mathlib.Core.List.{List, map}
 use Prim.Native.Nat.{ℕ, _+_, _/_, _%_}
@@ -13,14 +13,22 @@ use Rattle.filter.specs.declared.answers.Refusal.the-variants.{Form, Room}
 use Rattle.filter.specs.Table.{hashesOf}
 use Rattle.filter.proofs.TableLaws.{hashes-length}
 use Rattle.message.specs.declared.kinds.Wrote.the-variants.{To, Refused}
-use Rattle.message.specs.Layout.{Content, layout}
+use Rattle.message.specs.Layout.{Content, offer, demand, layout}
 use Rattle.message.specs.Writing.{layouts, pieces, write, wrote, hashesCall}
-use Rattle.message.specs.Putting.{cutBytes, endToEnd, framedHashes}
+use Rattle.message.specs.Putting.{cutBytes, endToEnd, framedHashes, Says}
 use Rattle.message.proofs.CutLaws.{cut-length, layouts-map}
 use Rattle.message.proofs.HashLaws.{framed-hashes-length}
 use Rattle.message.proofs.WriteLaws.{room-tested, wrote-there}
 
-module _ (say : List ℕ → Content) (kind : ℕ) (lays : (hs : List ℕ) → layout (say hs) ≡ framedHashes kind hs) (t : List ℕ) (at : ℕ) (out : List ℕ) where
+pub offer-says : Says 562 offer
+unfolding layout framedHashes
+offer-says hs = refl
+
+pub demand-says : Says 560 demand
+unfolding layout framedHashes
+demand-says hs = refl
+
+module _ (say : List ℕ → Content) (kind : ℕ) (lays : Says kind say) (t : List ℕ) (at : ℕ) (out : List ℕ) where
   abbrev cs : List Content
   cs = map say (pieces 1023 (hashesOf t))
 

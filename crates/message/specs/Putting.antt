@@ -1,7 +1,7 @@
 -- What the private functions that put messages into a buffer, and lay slices into columns, say of their steps. Nothing that a public contract cites.
 --
 --   endToEnd say ps         the bytes that say makes of each piece, one after the other
---   framedHashes t hs       the bytes of a message of type t with hashes
+--   framedHashes t hs       the bytes of a message of type t with hashes; Says t say: that say makes such messages
 --   cutBytes k h b n        the bytes of n items of b bytes each in messages of at most k, each with h bytes before its items
 --   headOf ..               the sixteen bytes before a slice's columns
 --   filterBytes w size      the bytes of a whole filter
@@ -23,7 +23,7 @@ use Rattle.bucket.specs.Packing.{countersAt, fitsIn}
 use Rattle.filter.specs.declared.answers.Refusal.the-variants.{None, Room}
 use Rattle.filter.specs.Calls.{hasRoom}
 use Rattle.message.specs.Laying.{Lay, lay}
-use Rattle.message.specs.Layout.{framed, inSlice, sliceBytes}
+use Rattle.message.specs.Layout.{Content, layout, framed, inSlice, sliceBytes}
 use Rattle.message.specs.Writing.{messages}
 
 unfoldable pub endToEnd : (List ℕ → List ℕ) → List (List ℕ) → List ℕ
@@ -32,6 +32,10 @@ endToEnd say (l ∷ ls) = say l ++ endToEnd say ls
 
 unfoldable pub framedHashes : ℕ → List ℕ → List ℕ
 framedHashes type hashes = framed type (packed 512 hashes)
+
+-- what is said of hashes is laid out as messages of type t
+abbrev pub Says : ℕ → (List ℕ → Content) → Type 0
+Says type say = (hs : List ℕ) → layout (say hs) ≡ framedHashes type hs
 
 abbrev pub cutBytes : ℕ → ℕ → ℕ → ℕ → ℕ
 cutBytes k head item n = head * messages k n + item * n

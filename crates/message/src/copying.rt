@@ -37,7 +37,7 @@ pub(crate) fn put_hashes(hashes: &[u32], from: usize, n: usize, out: &mut [u8], 
 {
     let mut j: usize = 0;
     while j < n {
-        let x = wide(hashes[from + j]);
+        let x = hashes[from + j] as u64;
         bucket::bytes::put_number(out, at + 4 * j, 4, x);
         j += 1;
     }
@@ -50,10 +50,4 @@ pub(crate) fn put_pair(out: &mut [u8], at: usize, k: usize, x: u64, y: u64)
 {
     bucket::bytes::put_number(out, at, k, x);
     bucket::bytes::put_number(out, at + k, k, y);
-}
-
-fn wide(x: u32) -> u64
-    ensures { λ r. ⌜ r ≡ x ⌝ }
-{
-    x as u64
 }

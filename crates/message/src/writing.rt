@@ -1,10 +1,12 @@
 // Messages written from a position of a lent buffer: lists, an element, the end. Each answers the next position, or why it wrote nothing; what is
 // before and behind is unchanged.
 ghost use mathlib.Core.Path.{_≡_};
-ghost use Prim.Native.Nat.{_+_, _*_, _≤_, _^_};
+ghost use mathlib.Core.List.{List, map};
+ghost use Prim.Native.Nat.{ℕ, _+_, _≤_, _^_};
 ghost use lib.Dec.{leb};
-ghost use Rattle.message.specs.Writing.{write, inquiryCall, hashesCall, offersOf, demandsOf, elementCall, doneCall};
-ghost use Rattle.message.specs.Putting.{cutBytes};
+ghost use Rattle.message.specs.Writing.{write, pieces, inquiryCall, hashesCall, offersOf, demandsOf, elementCall, doneCall};
+ghost use Rattle.message.specs.Layout.{Content};
+ghost use Rattle.message.specs.Putting.{Says, cutBytes};
 use crate::kinds::DEMAND;
 use crate::kinds::DONE;
 use crate::kinds::ELEMENT;
@@ -37,30 +39,14 @@ pub fn inquiry(ids: &[u64], salt: u32, out: &mut [u8], at: usize) -> Wrote
 pub fn offer(hashes: &[u8], out: &mut [u8], at: usize) -> Wrote
     ensures { λ r. ⌜ write r (now (out .exit)) ≡ hashesCall offersOf (now (hashes .entry)) at (now (out .entry)) ⌝ }
 {
-    if hashes.len() % 64 != 0 {
-        return Wrote::Refused { why: Refusal::Form };
-    }
-    let total = hashes_bytes(hashes.len() / 64);
-    if !has_room(at, total, out.len()) {
-        return Wrote::Refused { why: Refusal::Room };
-    }
-    crate::lists::put_offers(hashes, OFFER, out, at);
-    Wrote::To { next: at + total }
+    hashes_as(OFFER, hashes, out, at)
 }
 
 // DEMAND messages, likewise.
 pub fn demand(hashes: &[u8], out: &mut [u8], at: usize) -> Wrote
     ensures { λ r. ⌜ write r (now (out .exit)) ≡ hashesCall demandsOf (now (hashes .entry)) at (now (out .entry)) ⌝ }
 {
-    if hashes.len() % 64 != 0 {
-        return Wrote::Refused { why: Refusal::Form };
-    }
-    let total = hashes_bytes(hashes.len() / 64);
-    if !has_room(at, total, out.len()) {
-        return Wrote::Refused { why: Refusal::Room };
-    }
-    crate::lists::put_offers(hashes, DEMAND, out, at);
-    Wrote::To { next: at + total }
+    hashes_as(DEMAND, hashes, out, at)
 }
 
 // One ELEMENT. Refused: too little room, then a content that no message can hold.
@@ -97,6 +83,21 @@ pub fn done(check: &[u8], out: &mut [u8], at: usize) -> Wrote
     }
     crate::frames::put_framed(DONE, check, 0, 64, out, at);
     Wrote::To { next: at + 68 }
+}
+
+// Messages of a type for hashes, whatever they say by it.
+fn hashes_as(kind: u32, hashes: &[u8], out: &mut [u8], at: usize) -> Wrote
+    ensures { λ r. ⌜ ((say : List ℕ → Content) → Says kind say → write r (now (out .exit)) ≡ hashesCall (λ hs. map say (pieces 1023 hs)) (now (hashes .entry)) at (now (out .entry))) ⌝ }
+{
+    if hashes.len() % 64 != 0 {
+        return Wrote::Refused { why: Refusal::Form };
+    }
+    let total = hashes_bytes(hashes.len() / 64);
+    if !has_room(at, total, out.len()) {
+        return Wrote::Refused { why: Refusal::Room };
+    }
+    crate::lists::put_offers(hashes, kind, out, at);
+    Wrote::To { next: at + total }
 }
 
 // Whether n bytes from a position on lie within the room.

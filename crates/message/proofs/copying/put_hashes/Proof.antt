@@ -1,7 +1,7 @@
 -- `copying::put_hashes` meets its contract. The loop's invariant: the first j numbers stand in the buffer, and nothing else has changed.
 -- Assumes nothing.
 use mathlib.Core.Path.{_≡_, ap, _∙_}
-use Prim.Native.Nat.{ℕ, _-_, _≤_}
+use Prim.Native.Nat.{ℕ, _+_, _-_, _≤_}
 use native.Mathlib.Omega.{arith}
 use borrow.Author.Needs.{needs}
 use Rattle.bucket.specs.Digits.{packed}
@@ -19,17 +19,17 @@ abbrev μ-loop : tie.MeasureT-loop
 loop-holds : tie.Need-loop-holds Inv-loop μ-loop
 loop-holds c = (omega arith, put-start 4 _ _ _ _)
 
-add-wide : tie.Need-add-wide Inv-loop μ-loop
-add-wide c = search needs
+add-x : tie.Need-add-x Inv-loop μ-loop
+add-x c = search needs
 
-mul-wide : tie.Need-mul-wide Inv-loop μ-loop
-mul-wide c = search needs
+mul-x : tie.Need-mul-x Inv-loop μ-loop
+mul-x c = search needs
 
-shared-slice-read-wide : tie.Need-shared-slice-read-wide Inv-loop μ-loop
-shared-slice-read-wide c = search needs
+shared-slice-read-x : tie.Need-shared-slice-read-x Inv-loop μ-loop
+shared-slice-read-x c = search needs
 
-wide-requires : tie.Need-wide-requires Inv-loop μ-loop
-wide-requires c κs = search needs
+cast-x : tie.Need-cast-x Inv-loop μ-loop
+cast-x c = let a = c .before .before .before .before .before .args in omega (arith, c .shared-slice-known2 .given (a .from + c .before .before .loop .j))
 
 mul-put-number : tie.Need-mul-put-number Inv-loop μ-loop
 mul-put-number c = search needs
@@ -48,11 +48,10 @@ loop-less c = search needs
 
 loop-again : tie.Need-loop-again Inv-loop μ-loop
 loop-again c =
-    let a = c .before .before .before .before .before .before .before .before .before .before .args in
+    let a = c .before .before .before .before .before .before .before .before .before .args in
     let put = c .before .before .put-number in (
       omega arith,
-      put-next 4 (a .at) (a .from) (a .hashes .now) (a .out .now) (c .before .before .before .before .before .before .before .loop .inv .1) (omega arith) (omega arith) (omega arith) (put .kept .0)
-          (rw (c .before .before .before .before .wide .ensures) at (put .ensures)),
+      put-next 4 (a .at) (a .from) (a .hashes .now) (a .out .now) (c .before .before .before .before .before .before .loop .inv .1) (omega arith) (omega arith) (omega arith) (put .kept .0) (put .ensures),
     )
 
 same-length : tie.Need-same-length Inv-loop μ-loop
@@ -72,10 +71,10 @@ put-hashes-spec =
     Inv-loop
     μ-loop
     loop-holds
-    add-wide
-    mul-wide
-    shared-slice-read-wide
-    wide-requires
+    add-x
+    mul-x
+    shared-slice-read-x
+    cast-x
     mul-put-number
     add-put-number
     put-number-requires

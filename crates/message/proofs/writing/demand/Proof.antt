@@ -1,68 +1,18 @@
--- `writing::demand` meets its contract: each early answer is the definition's at the test that failed, and behind them the hashes are put.
--- Assumes nothing.
-use mathlib.Core.Path.{_≡_, refl}
-use mathlib.Core.List.{List}
-use Prim.Native.Nat.{ℕ}
-use native.Mathlib.Omega.{arith}
+-- `writing::demand` meets its contract, which is that of `hashes_as` for its type. Assumes nothing.
 use borrow.Author.Needs.{needs}
-use lib.ListN.{length}
-use Rattle.filter.proofs.TableLaws.{hashes-length}
-use Rattle.message.specs.Layout.{demand, layout}
-use Rattle.message.specs.Putting.{framedHashes}
-use Rattle.message.proofs.OfferLaws.{hashes-torn, hashes-refused, hashes-written}
-use Rattle.message.proofs.WriteLaws.{room-there}
+use Rattle.message.specs.Layout.{demand}
+use Rattle.message.proofs.OfferLaws.{demand-says}
 use Rattle.message.proofs.writing.demand.Statement.{statement}
 use Rattle.message.proofs.writing.demand.Tie as tie
 
-lays : (hs : List ℕ) → layout (demand hs) ≡ framedHashes 560 hs
-unfolding layout framedHashes
-lays hs = refl
-
-returns : tie.Need-returns
-returns c = let a = c .before .before .before .args in hashes-torn demand 560 lays (a .hashes .now) (a .at) (a .out .now) (c .if1 .taken)
-
-hashes-bytes-requires : tie.Need-hashes-bytes-requires
-hashes-bytes-requires c κs = omega arith
-
-has-room-requires : tie.Need-has-room-requires
-has-room-requires c κs = search needs
-
-returns-2 : tie.Need-returns-2
-returns-2 c =
-    let a = c .before .before .before .before .before .before .args in
-    hashes-refused demand 560 lays (a .hashes .now) (a .at) (a .out .now) (c .before .before .before .if1 .left) (c .before .before .hashes-bytes .ensures) (c .before .has-room .ensures) (c .if2 .taken)
-
-put-offers-requires : tie.Need-put-offers-requires
-put-offers-requires c κs =
-    let a = c .before .before .before .before .before .before .before .args in
-    let many = hashes-length (a .hashes .now) in
-    let room = room-there (a .at) (c .before .before .before .hashes-bytes .result) (length (a .out .now)) (c .before .before .has-room .ensures) (c .before .if2 .left) in
-    (c .before .before .before .before .if1 .left, omega arith)
-
-add-t5 : tie.Need-add-t5
-add-t5 c =
-    let a = c .before .before .before .before .before .before .before .before .before .before .args in
-    let room = room-there (a .at) (c .before .before .before .before .before .before .hashes-bytes .result) (length (a .out .now)) (c .before .before .before .before .before .has-room .ensures) (c .before .before .before .before .if2 .left) in
-    omega arith
+hashes-as-requires : tie.Need-hashes-as-requires
+hashes-as-requires c κs = search needs
 
 same-length : tie.Need-same-length
 same-length c = search needs
 
-returns-3 : tie.Need-returns-3
-returns-3 c =
-    let a = c .before .before .before .before .before .before .before .before .before .before .args in
-    let passed = c .before .before .before .before in
-    hashes-written demand 560 lays (a .hashes .now) (a .at) (a .out .now) (passed .before .before .before .if1 .left) (passed .before .before .hashes-bytes .ensures) (passed .before .has-room .ensures) (passed .if2 .left) (c .before .before .put-offers .ensures)
+returns : tie.Need-returns
+returns c = c .before .before .hashes-as .ensures demand demand-says
 
 pub demand-spec : {M : Type 1} → statement M
-demand-spec =
-    tie.close
-    (tie.spec
-    returns
-    hashes-bytes-requires
-    has-room-requires
-    returns-2
-    put-offers-requires
-    add-t5
-    same-length
-    returns-3)
+demand-spec = tie.close (tie.spec hashes-as-requires same-length returns)

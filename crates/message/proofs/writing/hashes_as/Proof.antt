@@ -1,0 +1,59 @@
+-- `writing::hashes_as` meets its contract: each early answer is the definition's at the test that failed, and behind them the hashes are put.
+-- Assumes nothing.
+use native.Mathlib.Omega.{arith}
+use borrow.Author.Needs.{needs}
+use lib.ListN.{length}
+use Rattle.filter.proofs.TableLaws.{hashes-length}
+use Rattle.message.proofs.OfferLaws.{hashes-torn, hashes-refused, hashes-written}
+use Rattle.message.proofs.WriteLaws.{room-there}
+use Rattle.message.proofs.writing.hashes_as.Statement.{statement}
+use Rattle.message.proofs.writing.hashes_as.Tie as tie
+
+returns : tie.Need-returns
+returns c say says = let a = c .before .before .before .args in hashes-torn say (a .kind) says (a .hashes .now) (a .at) (a .out .now) (c .if1 .taken)
+
+hashes-bytes-requires : tie.Need-hashes-bytes-requires
+hashes-bytes-requires c κs = search needs
+
+has-room-requires : tie.Need-has-room-requires
+has-room-requires c κs = search needs
+
+returns-2 : tie.Need-returns-2
+returns-2 c say says =
+    let a = c .before .before .before .before .before .before .args in
+    hashes-refused say (a .kind) says (a .hashes .now) (a .at) (a .out .now) (c .before .before .before .if1 .left) (c .before .before .hashes-bytes .ensures) (c .before .has-room .ensures) (c .if2 .taken)
+
+put-offers-requires : tie.Need-put-offers-requires
+put-offers-requires c κs =
+    let a = c .before .before .before .before .before .before .before .args in
+    let many = hashes-length (a .hashes .now) in
+    let room = room-there (a .at) (c .before .before .before .hashes-bytes .result) (length (a .out .now)) (c .before .before .has-room .ensures) (c .before .if2 .left) in
+    (c .before .before .before .before .if1 .left, omega arith)
+
+add-t6 : tie.Need-add-t6
+add-t6 c =
+    let a = c .before .before .before .before .before .before .before .before .before .before .args in
+    let room = room-there (a .at) (c .before .before .before .before .before .before .hashes-bytes .result) (length (a .out .now)) (c .before .before .before .before .before .has-room .ensures) (c .before .before .before .before .if2 .left) in
+    omega arith
+
+same-length : tie.Need-same-length
+same-length c = search needs
+
+returns-3 : tie.Need-returns-3
+returns-3 c say says =
+    let a = c .before .before .before .before .before .before .before .before .before .before .args in
+    let passed = c .before .before .before .before in
+    hashes-written say (a .kind) says (a .hashes .now) (a .at) (a .out .now) (passed .before .before .before .if1 .left) (passed .before .before .hashes-bytes .ensures) (passed .before .has-room .ensures) (passed .if2 .left) (c .before .before .put-offers .ensures)
+
+pub hashes-as-spec : {M : Type 1} → statement M
+hashes-as-spec =
+    tie.close
+    (tie.spec
+    returns
+    hashes-bytes-requires
+    has-room-requires
+    returns-2
+    put-offers-requires
+    add-t6
+    same-length
+    returns-3)
