@@ -3,18 +3,18 @@
 use mathlib.Core.Path.{_≡_}
 use mathlib.Core.Bool.{Bool, true, false, _&&_, _||_, and-eq-true-iff}
 use mathlib.Core.List.{List}
-use Prim.Native.Nat.{ℕ, _+_, _*_, _^_, _≤_, _<_}
+use Prim.Native.Nat.{ℕ, _+_, _-_, _*_, _/_, _%_, _^_, _≤_, _<_}
 use native.Mathlib.Omega.{arith}
 use borrow.Author.Tests.{le-leb, lt-leb, eq-eqb, ne-eqb, ltb-true, leb-true, eqb-true}
-use lib.Dec.{eqb}
+use lib.Dec.{eqb, ltb}
 use lib.ListN.{length, drop, length-take}
 use lib.Pow.{pow-mono}
 use Rattle.bucket.specs.Lists.{part}
 use Rattle.bucket.specs.Packing.{isBare}
 use Rattle.bucket.proofs.DigitLaws.{joined-lt}
-use Rattle.message.specs.declared.kinds.Message.the-variants.{Malformed}
-use Rattle.message.specs.Layout.{inSlice, sliceType, sliceBytes}
-use Rattle.message.specs.Reading.{field, sliceFits, sliceHead, sliceOf, parse, parseBody, parseSlice}
+use Rattle.message.specs.declared.kinds.Message.the-variants.{Inquiry, Malformed}
+use Rattle.message.specs.Layout.{IBF, IBF-LAST, inSlice, sliceType, sliceBytes}
+use Rattle.message.specs.Reading.{field, sliceFits, sliceHead, sliceOf, parse, parseBody, parseInquiry, parseSlice}
 
 pub both : (a b : Bool) → (a && b) ≡ true → (a ≡ true) × (b ≡ true)
 both a b h = and-eq-true-iff a b .0 h
@@ -31,6 +31,24 @@ other-size bs h l = rw (le-leb 4 (length bs) l, ne-eqb (field 2 0 bs) (length bs
 pub typed : (bs : List ℕ) (t : ℕ) → 4 ≤ length bs → field 2 0 bs ≡ length bs → t ≡ field 2 2 bs → parseBody t bs ≡ parse bs
 unfolding parse
 typed bs t l h e = rw (le-leb 4 (length bs) l, eq-eqb (field 2 0 bs) (length bs) h, e)
+
+-- an INQUIRY of whole IDs with a salt in range, and any other
+module _ (bs : List ℕ) {salt : ℕ} (l : 16 ≤ length bs) (e : salt ≡ field 4 4 bs) where
+  pub inquiry-whole : (eqb (length bs % 8) 0 && ltb salt 64) ≡ true → Inquiry salt ((length bs - 8) / 8) ≡ parseInquiry bs
+  unfolding parseInquiry
+  inquiry-whole h = rw (le-leb 16 (length bs) l, ← e, h)
+
+  pub inquiry-torn : (eqb (length bs % 8) 0 && ltb salt 64) ≡ false → Malformed ≡ parseInquiry bs
+  unfolding parseInquiry
+  inquiry-torn h = rw (le-leb 16 (length bs) l, ← e, h)
+
+-- the type of a slice of n buckets
+module _ (size offset : ℕ) {n : ℕ} (e : n ≡ inSlice size offset) where
+  pub reaches-end : offset + n ≡ size → IBF-LAST ≡ sliceType size offset
+  reaches-end h = rw (eq-eqb (offset + inSlice size offset) size (rw e at h))
+
+  pub stops-before : (offset + n ≡ size → ⊥) → IBF ≡ sliceType size offset
+  stops-before h = rw (ne-eqb (offset + inSlice size offset) size (rw e at h))
 
 -- the ranges of a slice that fits
 pub record Ranges (type size offset salt width len : ℕ) : Type 0 where

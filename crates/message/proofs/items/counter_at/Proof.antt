@@ -7,7 +7,7 @@ use Rattle.message.proofs.items.counter_at.Tie as tie
 
 returns : tie.Need-returns
 unfolding counterOf
-returns c = rw (lt-leb _ _ (c .if1 .taken))
+returns c = rw (lt-leb _ 2520 (c .if1 .taken))
 
 mul-counter-at : tie.Need-mul-counter-at
 mul-counter-at c = search needs
@@ -20,7 +20,7 @@ counter-at-requires c κs = search needs
 
 returns-2 : tie.Need-returns-2
 unfolding counterOf
-returns-2 c = rw (le-leb _ _ (c .before .if1 .left)) (c .counter-at .ensures)
+returns-2 c = rw (le-leb _ 2520 (c .before .if1 .left)) (c .counter-at .ensures)
 
 pub counter-at-spec : {M : Type 1} → statement M
 counter-at-spec =

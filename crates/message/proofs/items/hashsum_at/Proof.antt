@@ -10,11 +10,11 @@ use Rattle.message.proofs.items.hashsum_at.Tie as tie
 
 returns : tie.Need-returns
 unfolding hashsumAt
-returns c = rw (lt-leb _ _ (c .if1 .taken))
+returns c = rw (lt-leb _ 2520 (c .if1 .taken))
 
 returns-2 : tie.Need-returns-2
 unfolding hashsumAt
-returns-2 c = rw (le-leb _ _ (c .before .if1 .left), le-ltb _ _ (c .if2 .taken))
+returns-2 c = rw (le-leb _ 2520 (c .before .if1 .left), le-ltb _ _ (c .if2 .taken))
 
 mul-item-at : tie.Need-mul-item-at
 mul-item-at c = search needs
@@ -30,7 +30,7 @@ cast-result c = let a = c .before .before .before .before .args in omega (arith,
 
 returns-3 : tie.Need-returns-3
 unfolding hashsumAt
-returns-3 c = rw (le-leb _ _ (c .before .before .if1 .left), lt-ltb _ _ (c .before .if2 .left)) (c .item-at .ensures)
+returns-3 c = rw (le-leb _ 2520 (c .before .before .if1 .left), lt-ltb _ _ (c .before .if2 .left)) (c .item-at .ensures)
 
 pub hashsum-at-spec : {M : Type 1} → statement M
 hashsum-at-spec =

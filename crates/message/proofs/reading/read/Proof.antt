@@ -56,19 +56,19 @@ returns-8 : tie.Need-returns-8
 returns-8 c = rw (rw (c .before .hashes-fit2 .ensures) at (c .if8 .left)) at (known (c .before .before .before .before .before .before) DEMAND (c .before .before .if7 .taken))
 
 returns-9 : tie.Need-returns-9
-returns-9 c = rw (lt-leb _ _ (c .if10 .taken)) at (known (c .before .before .before .before .before .before) ELEMENT (c .before .if9 .taken))
+returns-9 c = rw (lt-leb 5 _ (c .if10 .taken)) at (known (c .before .before .before .before .before .before) ELEMENT (c .before .if9 .taken))
 
 sub-t19 : tie.Need-sub-t19
 sub-t19 c = search needs
 
 returns-10 : tie.Need-returns-10
-returns-10 c = rw (le-leb _ _ (c .if10 .left)) at (known (c .before .before .before .before .before .before) ELEMENT (c .before .if9 .taken))
+returns-10 c = rw (le-leb 5 _ (c .if10 .left)) at (known (c .before .before .before .before .before .before) ELEMENT (c .before .if9 .taken))
 
 returns-11 : tie.Need-returns-11
-returns-11 c = rw (eq-eqb _ _ (c .if12 .taken)) at (known (c .before .before .before .before .before .before .before) DONE (c .before .if11 .taken))
+returns-11 c = rw (eq-eqb _ 68 (c .if12 .taken)) at (known (c .before .before .before .before .before .before .before) DONE (c .before .if11 .taken))
 
 returns-12 : tie.Need-returns-12
-returns-12 c = rw (ne-eqb _ _ (c .if12 .left)) at (known (c .before .before .before .before .before .before .before) DONE (c .before .if11 .taken))
+returns-12 c = rw (ne-eqb _ 68 (c .if12 .left)) at (known (c .before .before .before .before .before .before .before) DONE (c .before .if11 .taken))
 
 returns-13 : tie.Need-returns-13
 returns-13 c =

@@ -1,13 +1,14 @@
 -- `message::reading::read_inquiry` meets its contract: its tests are those of the definition. Assumes nothing.
-use borrow.Author.Tests.{le-leb, lt-leb}
+use borrow.Author.Tests.{lt-leb}
 use Rattle.message.specs.Reading.{parseInquiry}
+use Rattle.message.proofs.ReadLaws.{inquiry-whole, inquiry-torn}
 use borrow.Author.Needs.{needs}
 use Rattle.message.proofs.reading.read_inquiry.Statement.{statement}
 use Rattle.message.proofs.reading.read_inquiry.Tie as tie
 
 returns : tie.Need-returns
 unfolding parseInquiry
-returns c = rw (lt-leb _ _ (c .if1 .taken))
+returns c = rw (lt-leb 16 _ (c .if1 .taken))
 
 word-at-requires : tie.Need-word-at-requires
 word-at-requires c κs = search needs
@@ -16,12 +17,10 @@ sub-t9 : tie.Need-sub-t9
 sub-t9 c = search needs
 
 returns-2 : tie.Need-returns-2
-unfolding parseInquiry
-returns-2 c = rw (c .before .word-at .ensures, le-leb _ _ (c .before .before .if1 .left), rw (c .before .word-at .ensures) at (c .if2 .taken))
+returns-2 c = inquiry-whole _ (c .before .before .if1 .left) (c .before .word-at .ensures) (c .if2 .taken)
 
 returns-3 : tie.Need-returns-3
-unfolding parseInquiry
-returns-3 c = rw (le-leb _ _ (c .before .before .if1 .left), rw (c .before .word-at .ensures) at (c .if2 .left))
+returns-3 c = inquiry-torn _ (c .before .before .if1 .left) (c .before .word-at .ensures) (c .if2 .left)
 
 pub read-inquiry-spec : {M : Type 1} → statement M
 read-inquiry-spec = tie.close (tie.spec returns word-at-requires sub-t9 returns-2 returns-3)

@@ -8,10 +8,10 @@ in-slice-requires : tie.Need-in-slice-requires
 in-slice-requires c κs = search needs
 
 returns : tie.Need-returns
-returns c = rw (c .before .in-slice .ensures, eq-eqb _ _ (c .if1 .taken))
+returns c = rw (c .before .in-slice .ensures, eq-eqb _ 567 (c .if1 .taken))
 
 returns-2 : tie.Need-returns-2
-returns-2 c = rw (c .before .in-slice .ensures, ne-eqb _ _ (c .if1 .left))
+returns-2 c = rw (c .before .in-slice .ensures, ne-eqb _ 567 (c .if1 .left))
 
 pub slice-head-spec : {M : Type 1} → statement M
 slice-head-spec = tie.close (tie.spec in-slice-requires returns returns-2)

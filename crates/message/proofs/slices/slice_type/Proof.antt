@@ -1,6 +1,6 @@
 -- `message::slices::slice_type` meets its contract: its test is that of the definition. Assumes nothing.
 use borrow.Author.Needs.{needs}
-use borrow.Author.Tests.{eq-eqb, ne-eqb}
+use Rattle.message.proofs.ReadLaws.{reaches-end, stops-before}
 use Rattle.message.proofs.slices.slice_type.Statement.{statement}
 use Rattle.message.proofs.slices.slice_type.Tie as tie
 
@@ -11,10 +11,10 @@ add-if1 : tie.Need-add-if1
 add-if1 c = search needs
 
 returns : tie.Need-returns
-returns c = rw (eq-eqb _ _ (rw (c .before .in-slice .ensures) at (c .if1 .taken)))
+returns c = reaches-end _ _ (c .before .in-slice .ensures) (c .if1 .taken)
 
 returns-2 : tie.Need-returns-2
-returns-2 c = rw (ne-eqb _ _ (rw (c .before .in-slice .ensures) at (c .if1 .left)))
+returns-2 c = stops-before _ _ (c .before .in-slice .ensures) (c .if1 .left)
 
 pub slice-type-spec : {M : Type 1} → statement M
 slice-type-spec = tie.close (tie.spec in-slice-requires add-if1 returns returns-2)

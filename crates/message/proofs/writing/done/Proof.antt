@@ -25,6 +25,9 @@ laid : (bytes : List ℕ) → Below 8 bytes → 64 ≤ length bytes → layouts 
 unfolding layout
 laid bytes below long = layouts-one (done (joined 8 (take 64 bytes))) ∙ ap (framed 568) (one-back 64 0 bytes below (omega arith))
 
+room : (c : tie.Else2) → let a = c .before .before .before .before .before .args in a .at + 68 ≤ length (a .out .now)
+room c = room-there _ _ _ (c .before .has-room .ensures) (c .if2 .left)
+
 returns : tie.Need-returns
 unfolding doneCall wrote
 returns c = let a = c .before .before .before .args in rw (lt-leb 64 (length (a .check .now)) (omega arith))
@@ -43,16 +46,10 @@ returns-2 c =
     )
 
 put-framed-requires : tie.Need-put-framed-requires
-put-framed-requires c κs =
-    let a = c .before .before .before .before .before .before .args in
-    let room = room-there (a .at) 68 (length (a .out .now)) (c .before .before .has-room .ensures) (c .before .if2 .left) in
-    (omega arith, omega arith)
+put-framed-requires c κs = (omega arith, omega (arith, room (c .before)))
 
 add-t4 : tie.Need-add-t4
-add-t4 c =
-    let a = c .before .before .before .before .before .before .before .before .before .args in
-    let room = room-there (a .at) 68 (length (a .out .now)) (c .before .before .before .before .before .has-room .ensures) (c .before .before .before .before .if2 .left) in
-    omega arith
+add-t4 c = omega (arith, room (c .before .before .before .before))
 
 same-length : tie.Need-same-length
 same-length c = search needs

@@ -2,7 +2,7 @@
 -- Assumes nothing.
 use mathlib.Core.Path.{_≡_, ap, _∙_}
 use mathlib.Core.List.{List, [], _∷_}
-use Prim.Native.Nat.{ℕ, _+_}
+use Prim.Native.Nat.{ℕ, _+_, _≤_}
 use native.Mathlib.Omega.{arith}
 use borrow.Author.Needs.{needs}
 use borrow.Author.Tests.{le-leb, lt-leb}
@@ -23,6 +23,9 @@ laid bytes = layouts-one (element bytes)
 
 size : (bytes : List ℕ) → length (layouts (element bytes ∷ [])) ≡ 4 + length bytes
 size bytes = ap length (laid bytes) ∙ framed-length 566 bytes
+
+room : (c : tie.Else1) → let a = c .before .before .before .before .args in a .at + (4 + length (a .content .now)) ≤ length (a .out .now)
+room c = room-there _ _ _ (c .before .has-room .ensures) (c .if1 .left)
 
 add-has-room : tie.Need-add-has-room
 add-has-room c = search needs
@@ -58,22 +61,13 @@ returns-3 c =
     )
 
 put-framed-requires : tie.Need-put-framed-requires
-put-framed-requires c κs =
-    let a = c .before .before .before .before .before .before .before .args in
-    let room = room-there (a .at) (4 + length (a .content .now)) (length (a .out .now)) (c .before .before .before .before .has-room .ensures) (c .before .before .before .if1 .left) in
-    (omega arith, omega arith)
+put-framed-requires c κs = (omega arith, omega (arith, room (c .before .before .before)))
 
 add-t6 : tie.Need-add-t6
-add-t6 c =
-    let a = c .before .before .before .before .before .before .before .before .before .before .args in
-    let room = room-there (a .at) (4 + length (a .content .now)) (length (a .out .now)) (c .before .before .before .before .before .before .before .has-room .ensures) (c .before .before .before .before .before .before .if1 .left) in
-    omega arith
+add-t6 c = omega (arith, room (c .before .before .before .before .before .before))
 
 add-t7 : tie.Need-add-t7
-add-t7 c =
-    let a = c .before .before .before .before .before .before .before .before .before .before .args in
-    let room = room-there (a .at) (4 + length (a .content .now)) (length (a .out .now)) (c .before .before .before .before .before .before .before .has-room .ensures) (c .before .before .before .before .before .before .if1 .left) in
-    omega arith
+add-t7 c = omega (arith, room (c .before .before .before .before .before .before))
 
 same-length : tie.Need-same-length
 same-length c = search needs

@@ -1,5 +1,6 @@
 -- `writing::hashes_as` meets its contract: each early answer is the definition's at the test that failed, and behind them the hashes are put.
 -- Assumes nothing.
+use Prim.Native.Nat.{_+_, _≤_}
 use native.Mathlib.Omega.{arith}
 use borrow.Author.Needs.{needs}
 use lib.ListN.{length}
@@ -8,6 +9,9 @@ use Rattle.message.proofs.OfferLaws.{hashes-torn, hashes-refused, hashe
 use Rattle.message.proofs.WriteLaws.{room-there}
 use Rattle.message.proofs.writing.hashes_as.Statement.{statement}
 use Rattle.message.proofs.writing.hashes_as.Tie as tie
+
+room : (c : tie.Else2) → let a = c .before .before .before .before .before .before .args in a .at + c .before .before .hashes-bytes .result ≤ length (a .out .now)
+room c = room-there _ _ _ (c .before .has-room .ensures) (c .if2 .left)
 
 returns : tie.Need-returns
 returns c say says = let a = c .before .before .before .args in hashes-torn say (a .kind) says (a .hashes .now) (a .at) (a .out .now) (c .if1 .taken)
@@ -25,16 +29,11 @@ returns-2 c say says =
 
 put-offers-requires : tie.Need-put-offers-requires
 put-offers-requires c κs =
-    let a = c .before .before .before .before .before .before .before .args in
-    let many = hashes-length (a .hashes .now) in
-    let room = room-there (a .at) (c .before .before .before .hashes-bytes .result) (length (a .out .now)) (c .before .before .has-room .ensures) (c .before .if2 .left) in
-    (c .before .before .before .before .if1 .left, omega arith)
+    let many = hashes-length (c .before .before .before .before .before .before .before .args .hashes .now) in
+    (c .before .before .before .before .if1 .left, omega (arith, room (c .before)))
 
 add-t6 : tie.Need-add-t6
-add-t6 c =
-    let a = c .before .before .before .before .before .before .before .before .before .before .args in
-    let room = room-there (a .at) (c .before .before .before .before .before .before .hashes-bytes .result) (length (a .out .now)) (c .before .before .before .before .before .has-room .ensures) (c .before .before .before .before .if2 .left) in
-    omega arith
+add-t6 c = omega (arith, room (c .before .before .before .before))
 
 same-length : tie.Need-same-length
 same-length c = search needs

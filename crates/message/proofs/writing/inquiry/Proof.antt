@@ -2,7 +2,7 @@
 -- Assumes nothing.
 use mathlib.Core.Path.{_≡_, refl, ap, _∙_}
 use mathlib.Core.List.{List}
-use Prim.Native.Nat.{ℕ}
+use Prim.Native.Nat.{ℕ, _+_, _≤_}
 use native.Mathlib.Omega.{arith}
 use borrow.Author.Needs.{needs}
 use borrow.Author.Tests.{lt-ltb, le-ltb}
@@ -22,6 +22,9 @@ module _ (salt : ℕ) (ids : List ℕ) where
 
   size : length (layouts (inquiriesOf salt ids)) ≡ cutBytes 8190 8 8 (length ids)
   size = ap length laid ∙ cut-length 8190 (λ (l : List ℕ). layout (inquiry salt l)) (omega arith) 8 8 (inquiry-length salt) ids
+
+room : (c : tie.Else2) → let a = c .before .before .before .before .before .args in a .at + cutBytes 8190 8 8 (length (a .ids .now)) ≤ length (a .out .now)
+room c = room-there _ _ _ (c .before .has-room .ensures) (c .if2 .left)
 
 returns : tie.Need-returns
 unfolding inquiryCall wrote
@@ -53,15 +56,10 @@ returns-2 c =
     )
 
 put-inquiries-requires : tie.Need-put-inquiries-requires
-put-inquiries-requires c κs =
-    let a = c .before .before .before .before .before .before .args in
-    room-there (a .at) (cutBytes 8190 8 8 (length (a .ids .now))) (length (a .out .now)) (c .before .before .has-room .ensures) (c .before .if2 .left)
+put-inquiries-requires c κs = room (c .before)
 
 add-t11 : tie.Need-add-t11
-add-t11 c =
-    let a = c .before .before .before .before .before .before .before .before .before .args in
-    let room = room-there (a .at) (cutBytes 8190 8 8 (length (a .ids .now))) (length (a .out .now)) (c .before .before .before .before .before .has-room .ensures) (c .before .before .before .before .if2 .left) in
-    omega arith
+add-t11 c = omega (arith, room (c .before .before .before .before))
 
 same-length : tie.Need-same-length
 same-length c = search needs
