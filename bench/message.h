@@ -84,7 +84,7 @@ static __attribute__((noinline)) tandawire_written c_filter_write(const uint64_t
 /* A slice of a filter; anything else is malformed here. */
 static inline tandawire_message slice_in(const uint8_t *message, size_t length)
 {
-    const tandawire_message none = {0};
+    const tandawire_message none = {.refusal = TANDAWIRE_REFUSED_MALFORMED};
     if (length < HEAD || get(message, 2) != length)
         return none;
     uint64_t type = get(message + 2, 2), size = get(message + 4, 4), offset = get(message + 8, 4), salt = get(message + 12, 2), width = get(message + 14, 2);
@@ -95,7 +95,7 @@ static inline tandawire_message slice_in(const uint8_t *message, size_t length)
         return none;
     if (message[length - 1] % (1u << (8 * ((n * width + 7) / 8) - n * width)) != 0)
         return none;
-    return (tandawire_message){(uint32_t)type, (uint32_t)size, (uint32_t)offset, (uint32_t)salt, (uint32_t)width, n, 0, length};
+    return (tandawire_message){0, (uint32_t)type, (uint32_t)size, (uint32_t)offset, (uint32_t)salt, (uint32_t)width, n, 0, length};
 }
 
 static __attribute__((noinline)) tandawire_message c_message_read(const uint8_t *message, size_t length)
@@ -108,8 +108,8 @@ static __attribute__((noinline)) uint32_t c_filter_lay(const uint8_t *message, s
 {
     tandawire_message m = slice_in(message, length);
     size_t n = m.count, offset = m.offset, end = offset + n, width = m.width;
-    if (m.kind == TANDAWIRE_MALFORMED)
-        return 4;
+    if (m.refusal != 0)
+        return m.refusal;
     if (ids_length < end || hashes_length < end || counts_length < end)
         return 2;
     const uint8_t *from = message + HEAD;

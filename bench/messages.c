@@ -59,8 +59,8 @@ static int read_alike(const uint8_t *message, size_t length)
 {
     tandawire_message a = tandawire_message_read(message, length), b = c_message_read(message, length);
     return (!is_slice(a) && !is_slice(b)) ||
-           (a.kind == b.kind && a.size == b.size && a.offset == b.offset && a.salt == b.salt && a.width == b.width && a.count == b.count &&
-            a.start == b.start && a.next == b.next);
+           (a.refusal == b.refusal && a.kind == b.kind && a.size == b.size && a.offset == b.offset && a.salt == b.salt && a.width == b.width &&
+            a.count == b.count && a.start == b.start && a.next == b.next);
 }
 
 /* Whether both sides read and lay a message alike; answers the refusal, or -1. */

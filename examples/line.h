@@ -131,7 +131,7 @@ static inline const char *line_send_messages(struct line *l, const uint8_t *mess
         fault = line_send(l, LINE_MESSAGE, messages + m.start, m.next - m.start);
         at = m.next;
     }
-    return fault;
+    return fault || !m.refusal ? fault : tandawire_refusal_text(m.refusal);
 }
 
 /* Whether a call that moved nothing may be tried again. */

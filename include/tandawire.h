@@ -12,9 +12,10 @@
  *   this file: the calls themselves, on numbers and slices, for callers that lay out their own
  *     memory; and the constants, the refusals and what a call answers, for both layers.
  *
- * Every call answers every input. A refusal is a number (TANDAWIRE_REFUSED_..; its text is
- * tandawire_refusal_text), and each call says what a refusal leaves behind. Nothing is undefined but
- * what the memory rules below ask of the caller.
+ * Every call answers every input. Every refusal is a number (TANDAWIRE_REFUSED_..; its text is
+ * tandawire_refusal_text), 0 where there is none: the answer itself, or the first field of the struct
+ * that is answered. Each call says what a refusal leaves behind. Nothing is undefined but what the
+ * memory rules below ask of the caller.
  *
  * Memory. The caller owns all of it and lends it for the length of a call: the library allocates
  * nothing, keeps no pointer and has no state of its own. Each slice is a pointer and then its length
@@ -50,8 +51,8 @@ extern "C" {
 
 /* The version of this header, as text and as major * 10,000 + minor * 100 + patch; and that of the
  * archive that is linked. A program can hold one to the other. */
-#define TANDAWIRE_VERSION "0.1.0"
-#define TANDAWIRE_VERSION_NUMBER 100
+#define TANDAWIRE_VERSION "0.2.0"
+#define TANDAWIRE_VERSION_NUMBER 200
 uint32_t tandawire_version(void);
 
 #define TANDAWIRE_HASH_BYTES 64
@@ -78,8 +79,8 @@ uint32_t tandawire_version(void);
 #define TANDAWIRE_DONE_BYTES 68            /* bytes of a DONE */
 
 /* The kinds of a message: MSG TYPE, or that there is none. */
-#define TANDAWIRE_MALFORMED 0
-#define TANDAWIRE_END 1
+#define TANDAWIRE_MALFORMED 0              /* the bytes are no message: refused with 4 */
+#define TANDAWIRE_END 1                    /* the buffer ends here: not refused */
 #define TANDAWIRE_DEMAND 560
 #define TANDAWIRE_INQUIRY 561
 #define TANDAWIRE_OFFER 562
@@ -220,22 +221,25 @@ tandawire_estimation tandawire_estimate(uint64_t *ids, size_t ids_length,
 
 /* ---- Messages ---- */
 
-/* A message: its kind (TANDAWIRE_IBF and so on) and numbers, and its place in the buffer. Fields that
- * its kind does not have are 0. */
+/* What is found where a message is looked for: the refusal; and its kind, its numbers and its place in the
+ * buffer. Fields that its kind does not have are 0. The refusal is 4 exactly where the kind is
+ * TANDAWIRE_MALFORMED; with 0 there is a message, or in a walk the end of the buffer, TANDAWIRE_END. */
 typedef struct tandawire_message {
-    uint32_t kind;
-    uint32_t size;   /* IBF and IBF LAST: the buckets of the whole filter */
-    uint32_t offset; /* IBF and IBF LAST: the slice's first bucket, 0 or 2,520 */
-    uint32_t salt;   /* IBF, IBF LAST and INQUIRY */
-    uint32_t width;  /* IBF and IBF LAST: the bits of a counter */
-    size_t count;    /* buckets of the slice, IDs, hashes, or bytes of an ELEMENT's content; 1 for a DONE */
-    size_t start;    /* where it begins */
-    size_t next;     /* the position behind it */
+    uint32_t refusal; /* 0; or 4 where the bytes are no message */
+    uint32_t kind;    /* TANDAWIRE_IBF and so on */
+    uint32_t size;    /* IBF and IBF LAST: the buckets of the whole filter */
+    uint32_t offset;  /* IBF and IBF LAST: the slice's first bucket, 0 or 2,520 */
+    uint32_t salt;    /* IBF, IBF LAST and INQUIRY */
+    uint32_t width;   /* IBF and IBF LAST: the bits of a counter */
+    size_t count;     /* buckets of the slice, IDs, hashes, or bytes of an ELEMENT's content; 1 for a DONE */
+    size_t start;     /* where it begins */
+    size_t next;      /* the position behind it */
 } tandawire_message;
 
-/* Reads the bytes as exactly one message. Malformed: TANDAWIRE_MALFORMED and 0 in every other field.
- * What is read is well-formed in every field: ranges, MSG SIZE, the type of a slice, zeros in the spare
- * bits of packed counters. The content of an ELEMENT is the count bytes from TANDAWIRE_MESSAGE_HEAD on. */
+/* Reads the bytes as exactly one message. Answers refusal 0; or 4 where they are none: the kind is
+ * TANDAWIRE_MALFORMED then, and every other field 0. What is read is well-formed in every field: ranges,
+ * MSG SIZE, the type of a slice, zeros in the spare bits of packed counters. The content of an ELEMENT is
+ * the count bytes from TANDAWIRE_MESSAGE_HEAD on. */
 tandawire_message tandawire_message_read(const uint8_t *message, size_t message_length);
 
 /* Walks a buffer that holds several messages end to end: the message that begins at a position, start
@@ -247,10 +251,12 @@ tandawire_message tandawire_message_read(const uint8_t *message, size_t message_
  *         .. buffer + m.start, m.next - m.start bytes ..
  *         at = m.next;
  *     }
+ *     if (m.refusal)
+ *         .. the bytes from at on are no message ..
  *
- * At the end of the buffer, or past it, the kind is TANDAWIRE_END. Where the bytes are no message the
- * kind is TANDAWIRE_MALFORMED: the messages before it stand, and there is no way past it. In both cases
- * start and next are the position given. */
+ * Answers refusal 0; or 4, and kind TANDAWIRE_MALFORMED, where no message begins there: those before it
+ * stand, and there is no way past it. At the end of the buffer, or past it, the refusal is 0 and the kind
+ * TANDAWIRE_END. In both cases start and next are the position given, and the fields between are 0. */
 tandawire_message tandawire_message_at(const uint8_t *buffer, size_t buffer_length, size_t at);
 
 /* What a writer answers: the refusal; and the position behind what it wrote, 0 where it is refused. */

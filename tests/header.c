@@ -136,9 +136,10 @@ static tandawire_written write_filter(size_t room, uint32_t size, uint32_t salt)
     return tandawire_filter_write(ids, ROOM, hashes, ROOM, counts, ROOM, size, salt, buffer, room, 0);
 }
 
-static void expect_message(const char *what, tandawire_message m, uint32_t kind, uint32_t size, uint32_t offset, uint32_t salt, uint32_t width,
-                           size_t count, size_t start, size_t next)
+static void expect_message(const char *what, tandawire_message m, uint32_t refusal, uint32_t kind, uint32_t size, uint32_t offset, uint32_t salt,
+                           uint32_t width, size_t count, size_t start, size_t next)
 {
+    expect(what, m.refusal, refusal);
     expect(what, m.kind, kind);
     expect(what, m.size, size);
     expect(what, m.offset, offset);
@@ -173,12 +174,12 @@ static void expect_filter_messages(void)
     counts[TANDAWIRE_MOST_SIZE - 1] = 0xffffffff;
     expect("filter, most bytes", write_filter(most, TANDAWIRE_MOST_SIZE, 5).next, most);
     expect("filter, one byte less", write_filter(most - 1, TANDAWIRE_MOST_SIZE, 5).refusal, TANDAWIRE_REFUSED_ROOM);
-    expect_message("the walk, IBF", tandawire_message_at(buffer, most, 0), TANDAWIRE_IBF, TANDAWIRE_MOST_SIZE, 0, 5, 32, slice, 0, first);
-    expect_message("the walk, IBF LAST", tandawire_message_at(buffer, most, first), TANDAWIRE_IBF_LAST, TANDAWIRE_MOST_SIZE, (uint32_t)slice, 5, 32,
+    expect_message("the walk, IBF", tandawire_message_at(buffer, most, 0), 0, TANDAWIRE_IBF, TANDAWIRE_MOST_SIZE, 0, 5, 32, slice, 0, first);
+    expect_message("the walk, IBF LAST", tandawire_message_at(buffer, most, first), 0, TANDAWIRE_IBF_LAST, TANDAWIRE_MOST_SIZE, (uint32_t)slice, 5, 32,
                    last, first, most);
-    expect_message("the walk, the end", tandawire_message_at(buffer, most, most), TANDAWIRE_END, 0, 0, 0, 0, 0, most, most);
-    expect_message("the walk, malformed", tandawire_message_at(buffer, most, 1), TANDAWIRE_MALFORMED, 0, 0, 0, 0, 0, 1, 1);
-    expect_message("read, malformed", tandawire_message_read(buffer, most), TANDAWIRE_MALFORMED, 0, 0, 0, 0, 0, 0, 0);
+    expect_message("the walk, the end", tandawire_message_at(buffer, most, most), 0, TANDAWIRE_END, 0, 0, 0, 0, 0, most, most);
+    expect_message("the walk, malformed", tandawire_message_at(buffer, most, 1), TANDAWIRE_REFUSED_MALFORMED, TANDAWIRE_MALFORMED, 0, 0, 0, 0, 0, 1, 1);
+    expect_message("read, malformed", tandawire_message_read(buffer, most), TANDAWIRE_REFUSED_MALFORMED, TANDAWIRE_MALFORMED, 0, 0, 0, 0, 0, 0, 0);
     ids[TANDAWIRE_MOST_SIZE - 1] = 0;
     expect("lay, no room", tandawire_filter_lay(buffer + first, most - first, ids, ROOM, hashes, ROOM, counts, TANDAWIRE_MOST_SIZE - 1),
            TANDAWIRE_REFUSED_ROOM);
@@ -219,19 +220,19 @@ static void expect_messages(void)
     expect("element, from a position", tandawire_element_write(content, 1, buffer, most, 3).next, 3 + TANDAWIRE_MESSAGE_HEAD + 1);
     expect("element, its content", buffer[3 + TANDAWIRE_MESSAGE_HEAD], 9);
     expect("null for nothing", tandawire_element_write(NULL, 0, NULL, 0, 0).refusal, TANDAWIRE_REFUSED_ROOM);
-    expect("null for nothing, read", tandawire_message_read(NULL, 0).kind, TANDAWIRE_MALFORMED);
-    expect("null for nothing, walked", tandawire_message_at(NULL, 0, 0).kind, TANDAWIRE_END);
+    expect_message("null for nothing, read", tandawire_message_read(NULL, 0), TANDAWIRE_REFUSED_MALFORMED, TANDAWIRE_MALFORMED, 0, 0, 0, 0, 0, 0, 0);
+    expect_message("null for nothing, walked", tandawire_message_at(NULL, 0, 0), 0, TANDAWIRE_END, 0, 0, 0, 0, 0, 0, 0);
     expect("null for nothing, laid", tandawire_filter_lay(NULL, 0, NULL, 0, NULL, 0, NULL, 0), TANDAWIRE_REFUSED_MALFORMED);
 
     const size_t inquiry = 8 + 8 * (size_t)TANDAWIRE_MOST_IDS, offer = TANDAWIRE_MESSAGE_HEAD + TANDAWIRE_HASH_BYTES * (size_t)TANDAWIRE_MOST_HASHES;
-    expect_message("INQUIRY", bare(TANDAWIRE_INQUIRY, inquiry), TANDAWIRE_INQUIRY, 0, 0, 0, 0, TANDAWIRE_MOST_IDS, 0, inquiry);
+    expect_message("INQUIRY", bare(TANDAWIRE_INQUIRY, inquiry), 0, TANDAWIRE_INQUIRY, 0, 0, 0, 0, TANDAWIRE_MOST_IDS, 0, inquiry);
     expect("no longer INQUIRY", inquiry + 8 > most, 1);
-    expect_message("OFFER", bare(TANDAWIRE_OFFER, offer), TANDAWIRE_OFFER, 0, 0, 0, 0, TANDAWIRE_MOST_HASHES, 0, offer);
-    expect_message("DEMAND", bare(TANDAWIRE_DEMAND, offer), TANDAWIRE_DEMAND, 0, 0, 0, 0, TANDAWIRE_MOST_HASHES, 0, offer);
+    expect_message("OFFER", bare(TANDAWIRE_OFFER, offer), 0, TANDAWIRE_OFFER, 0, 0, 0, 0, TANDAWIRE_MOST_HASHES, 0, offer);
+    expect_message("DEMAND", bare(TANDAWIRE_DEMAND, offer), 0, TANDAWIRE_DEMAND, 0, 0, 0, 0, TANDAWIRE_MOST_HASHES, 0, offer);
     expect("no longer OFFER", offer + TANDAWIRE_HASH_BYTES > most, 1);
-    expect_message("ELEMENT", bare(TANDAWIRE_ELEMENT, most), TANDAWIRE_ELEMENT, 0, 0, 0, 0, TANDAWIRE_MOST_CONTENT, 0, most);
-    expect_message("DONE", bare(TANDAWIRE_DONE, TANDAWIRE_DONE_BYTES), TANDAWIRE_DONE, 0, 0, 0, 0, 1, 0, TANDAWIRE_DONE_BYTES);
-    expect("DONE of 4 bytes", bare(TANDAWIRE_DONE, 4).kind, TANDAWIRE_MALFORMED);
+    expect_message("ELEMENT", bare(TANDAWIRE_ELEMENT, most), 0, TANDAWIRE_ELEMENT, 0, 0, 0, 0, TANDAWIRE_MOST_CONTENT, 0, most);
+    expect_message("DONE", bare(TANDAWIRE_DONE, TANDAWIRE_DONE_BYTES), 0, TANDAWIRE_DONE, 0, 0, 0, 0, 1, 0, TANDAWIRE_DONE_BYTES);
+    expect_message("DONE of 4 bytes", bare(TANDAWIRE_DONE, 4), TANDAWIRE_REFUSED_MALFORMED, TANDAWIRE_MALFORMED, 0, 0, 0, 0, 0, 0, 0);
     expect_filter_messages();
     expect_sizes();
 }

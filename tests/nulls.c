@@ -56,7 +56,9 @@ static void expect_others(void)
     expect("estimator", tandawire_estimator_build(NULL, 0, NULL, 0, NULL, 0, NULL, 0), TANDAWIRE_REFUSED_ROOM);
     expect("estimate", tandawire_estimate(NULL, 0, NULL, 0, NULL, 0, NULL, 0, NULL, 0, NULL, 0).refusal, TANDAWIRE_REFUSED_ROOM);
     expect("message", tandawire_message_read(NULL, 0).kind, TANDAWIRE_MALFORMED);
+    expect("message, refusal", tandawire_message_read(NULL, 0).refusal, TANDAWIRE_REFUSED_MALFORMED);
     expect("walk", tandawire_message_at(NULL, 0, 0).kind, TANDAWIRE_END);
+    expect("walk, refusal", tandawire_message_at(NULL, 0, 0).refusal, TANDAWIRE_REFUSED_NONE);
     expect("walk, past the end", tandawire_message_at(NULL, 0, 9).kind, TANDAWIRE_END);
     expect("element, no room", tandawire_element_write(hash, 1, NULL, 0, 0).refusal, TANDAWIRE_REFUSED_ROOM);
     expect("element, no content", tandawire_element_write(NULL, 0, out, sizeof out, 0).refusal, TANDAWIRE_REFUSED_MALFORMED);

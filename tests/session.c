@@ -20,7 +20,15 @@ static void expect_sizes(void)
     expect("sizeof estimation", sizeof(tandawire_estimation), 16);
     expect("estimation, estimate", offsetof(tandawire_estimation, estimate), 8);
     expect("sizeof message", sizeof(tandawire_message), 48);
+    expect("message, refusal", offsetof(tandawire_message, refusal), 0);
+    expect("message, kind", offsetof(tandawire_message, kind), 4);
+    expect("message, size", offsetof(tandawire_message, size), 8);
+    expect("message, offset", offsetof(tandawire_message, offset), 12);
+    expect("message, salt", offsetof(tandawire_message, salt), 16);
+    expect("message, width", offsetof(tandawire_message, width), 20);
     expect("message, count", offsetof(tandawire_message, count), 24);
+    expect("message, start", offsetof(tandawire_message, start), 32);
+    expect("message, next", offsetof(tandawire_message, next), 40);
     expect("sizeof written", sizeof(tandawire_written), 16);
     expect("written, next", offsetof(tandawire_written, next), 8);
     expect("sizeof numbers", sizeof(tandawire_numbers), 36);
@@ -42,6 +50,7 @@ static void expect_answers(void)
     tandawire_message m = tandawire_message_at(line, w.next, 7);
     expect("first slice, width", m.width, 1);
     m = tandawire_message_at(line, w.next, m.next);
+    expect("message, refusal", m.refusal, 0);
     expect("message, kind", m.kind, TANDAWIRE_IBF_LAST);
     expect("message, size", m.size, 4001);
     expect("message, offset", m.offset, 2520);
@@ -51,6 +60,7 @@ static void expect_answers(void)
     expect("message, start", m.start, 7 + 16 + 12 * 2520 + 315);
     expect("message, next", m.next, m.start + 16 + 12 * 1481 + 186);
     expect("written, next", w.next, m.next);
+    expect("no message, refusal", tandawire_message_at(line, w.next, 8).refusal, TANDAWIRE_REFUSED_MALFORMED);
     w = tandawire_filter_put(&f, line, m.next - 1, 7);
     expect("not written, refusal", w.refusal, TANDAWIRE_REFUSED_ROOM);
     expect("not written, next", w.next, 0);

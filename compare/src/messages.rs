@@ -24,7 +24,7 @@ use layout::{END, KINDS, MALFORMED};
 use std::collections::BTreeMap;
 
 /// Fewer messages read than this mean that something was left out, as do fewer of a kind, fewer
-/// malformed ones, fewer steps of a walk of a kind, or fewer refusals of a writer.
+/// malformed ones, fewer steps of a walk of a kind, or fewer of a refusal of a call.
 const LEAST: u64 = 200_000;
 const LEAST_OF_A_KIND: u64 = 1_000;
 const LEAST_MALFORMED: u64 = 50_000;
@@ -32,7 +32,9 @@ const LEAST_STEPS: u64 = 1_000;
 const LEAST_REFUSED: u64 = 20;
 
 /// What each call may answer; 0 is no refusal.
-const REFUSALS: [(&str, &[u32]); 7] = [
+const REFUSALS: [(&str, &[u32]); 9] = [
+    ("message_read", &[0, 4]),
+    ("message_at", &[0, 4]),
     ("element_write", &[0, 2, 4]),
     ("filter_write", &[0, 1, 2, 3]),
     ("filter_lay", &[0, 2, 4]),
@@ -48,6 +50,12 @@ pub struct Counts {
     read: BTreeMap<u32, u64>,
     met: BTreeMap<u32, u64>,
     refused: BTreeMap<(&'static str, u32), u64>,
+}
+
+impl Counts {
+    fn answered(&mut self, name: &'static str, refusal: u32) {
+        *self.refused.entry((name, refusal)).or_default() += 1;
+    }
 }
 
 pub fn compare(tally: &mut Tally) {

@@ -83,6 +83,7 @@ extern "C" {
 
 #[repr(C)]
 struct TandawireMessage {
+    refusal: u32,
     kind: u32,
     size: u32,
     offset: u32,
@@ -99,6 +100,7 @@ const _: () = assert!(size_of::<TandawireMessage>() == 48);
 impl From<TandawireMessage> for Header {
     fn from(message: TandawireMessage) -> Header {
         Header {
+            refusal: message.refusal,
             kind: message.kind,
             size: message.size,
             offset: message.offset,

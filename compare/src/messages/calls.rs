@@ -35,6 +35,7 @@ pub fn read_part(tally: &mut Tally, whole: &[u8], part: Range<usize>) -> u32 {
         format!("message_read({len:#x} bytes {bytes:02x?})")
     };
     tally.same(call, (model, whole), (library, &by_library[..]));
+    tally.messages.answered("message_read", model.refusal);
     *tally.messages.read.entry(model.kind).or_default() += 1;
     model.kind
 }
@@ -56,6 +57,7 @@ pub fn step_part(tally: &mut Tally, whole: &[u8], part: Range<usize>, at: usize)
         format!("message_at({len:#x} bytes {buffer:02x?}, at {at:#x})")
     };
     tally.same(call, (model, whole), (library, &by_library[..]));
+    tally.messages.answered("message_at", model.refusal);
     *tally.messages.met.entry(model.kind).or_default() += 1;
     model
 }
@@ -130,11 +132,7 @@ fn written<T: Clone + PartialEq + Debug>(
     let other = library(&mut by_library.0, lent(&mut by_library.1));
     let call = || format!("{name} with {room:x?} of {given:x?} on {before:02x?}");
     tally.same(call, (answer, by_model), (other, by_library));
-    *tally
-        .messages
-        .refused
-        .entry((name, answer.refusal))
-        .or_default() += 1;
+    tally.messages.answered(name, answer.refusal);
     answer
 }
 
@@ -266,11 +264,7 @@ pub fn lay(tally: &mut Tally, random: &mut Random, message: &[u8], columns: &Who
         (model, by_model, before),
         (library, by_library, lent_message),
     );
-    *tally
-        .messages
-        .refused
-        .entry(("filter_lay", model))
-        .or_default() += 1;
+    tally.messages.answered("filter_lay", model);
     model
 }
 

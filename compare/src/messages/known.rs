@@ -120,6 +120,7 @@ pub fn check_model() -> Result<(), String> {
     check("the second slice begins", large[1][..16] == second)?;
     check("the last counter", large[1].last() == Some(&0x0F))?;
     let read_first = Header {
+        refusal: 0,
         kind: 565,
         size: 4096,
         offset: 0,
@@ -176,16 +177,27 @@ fn check_walk() -> Result<(), String> {
     buffer.extend([3; 64]);
     let steps = |buffer: &[u8], from: usize| {
         let header = layout::at(buffer, from);
-        (header.kind, header.count, header.start, header.next)
+        let numbers = (header.count, header.start, header.next);
+        (header.refusal, header.kind, numbers)
     };
-    check("the first of a walk", steps(&buffer, 0) == (566, 2, 0, 6))?;
-    check("the second of a walk", steps(&buffer, 6) == (568, 1, 6, 74))?;
-    check("the end of a walk", steps(&buffer, 74) == (1, 0, 74, 74))?;
-    check("past the end", steps(&buffer, 90) == (1, 0, 90, 90))?;
-    check("an empty buffer", steps(&[], 0) == (1, 0, 0, 0))?;
+    check(
+        "the first of a walk",
+        steps(&buffer, 0) == (0, 566, (2, 0, 6)),
+    )?;
+    check(
+        "the second of a walk",
+        steps(&buffer, 6) == (0, 568, (1, 6, 74)),
+    )?;
+    check(
+        "the end of a walk",
+        steps(&buffer, 74) == (0, 1, (0, 74, 74)),
+    )?;
+    check("past the end", steps(&buffer, 90) == (0, 1, (0, 90, 90)))?;
+    check("an empty buffer", steps(&[], 0) == (0, 1, (0, 0, 0)))?;
     buffer.extend([0, 5, 2]);
-    check("bytes left over", steps(&buffer, 74) == (0, 0, 74, 74))?;
-    check("nothing read", layout::read(&[]) == Header::default())
+    check("bytes left over", steps(&buffer, 74) == (4, 0, (0, 74, 74)))?;
+    let nothing = layout::read(&[]);
+    check("nothing read", (nothing.refusal, nothing.kind) == (4, 0))
 }
 
 /// The library reads and walks what was written by hand.

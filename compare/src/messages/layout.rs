@@ -18,6 +18,9 @@ pub const KINDS: [u32; 7] = [DEMAND, INQUIRY, OFFER, IBF, ELEMENT, IBF_LAST, DON
 pub const MALFORMED: u32 = 0;
 pub const END: u32 = 1;
 
+/// "message malformed" in the table of refusal numbers.
+pub const REFUSED: u32 = 4;
+
 /// The most buckets of a slice, IDs of an INQUIRY, hashes of an OFFER or a DEMAND, and bytes of
 /// an ELEMENT's content.
 pub const MOST_BUCKETS: usize = 2520;
@@ -25,9 +28,10 @@ pub const MOST_IDS: usize = 8190;
 pub const MOST_LISTED: usize = 1023;
 pub const MOST_CONTENT: usize = 65531;
 
-/// What the library answers to a reading: a message's numbers, and where it stands.
+/// What the library answers to a reading: the refusal, a message's numbers, and where it stands.
 #[derive(Clone, Copy, Debug, Default, PartialEq)]
 pub struct Header {
+    pub refusal: u32,
     pub kind: u32,
     pub size: u32,
     pub offset: u32,
@@ -244,40 +248,47 @@ fn parse_slice(kind: u32, body: &[u8]) -> Option<Slice> {
     }
 }
 
+impl Header {
+    /// Of no message that begins at this position: malformed bytes are refused, an end is not.
+    fn of_none(refusal: u32, kind: u32, at: usize) -> Header {
+        Header {
+            refusal,
+            kind,
+            start: at,
+            next: at,
+            ..Header::default()
+        }
+    }
+}
+
 /// The whole of the bytes read as exactly one message.
 pub fn read(bytes: &[u8]) -> Header {
     match parse(bytes) {
         Some(message) => message.header(0, bytes.len()),
-        None => Header::default(),
+        None => Header::of_none(REFUSED, MALFORMED, 0),
     }
 }
 
 /// The message that begins at a position of a buffer.
 pub fn at(buffer: &[u8], at: usize) -> Header {
-    let nothing = |kind| Header {
-        kind,
-        start: at,
-        next: at,
-        ..Header::default()
-    };
     if at >= buffer.len() {
-        return nothing(END);
+        return Header::of_none(0, END, at);
     }
     let rest = &buffer[at..];
     if rest.len() < 4 || number(rest, 0, 2) as usize > rest.len() {
-        return nothing(MALFORMED);
+        return Header::of_none(REFUSED, MALFORMED, at);
     }
     let bytes = &rest[..number(rest, 0, 2) as usize];
     match parse(bytes) {
         Some(message) => message.header(at, bytes.len()),
-        None => nothing(MALFORMED),
+        None => Header::of_none(REFUSED, MALFORMED, at),
     }
 }
 
 /// Lays the slice in the columns from its offset on and answers the refusal.
 pub fn lay(bytes: &[u8], columns: model::Columns) -> u32 {
     let Some(Message::Slice(slice)) = parse(bytes) else {
-        return 4;
+        return REFUSED;
     };
     let from = slice.offset as usize;
     let end = from + slice.ids.len();
