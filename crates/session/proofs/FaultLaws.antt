@@ -9,7 +9,7 @@ use borrow.Author.Tests.{eq-eqb, leb-true, ltb-true}
 use Rattle.filter.specs.Calls.{Read}
 use Rattle.message.specs.Layout.{Content, slice, inquiry, offer, demand, element, done, sliceGood}
 use Rattle.message.proofs.ReadLaws.{both}
-use Rattle.session.specs.Session.{Session, Outcome, firstFault, admitted, acts, stopped, faults, readOf, refusal, cleared, halted, refused}
+use Rattle.session.specs.Session.{Session, Outcome, firstFault, admitted, acts, clears, stopped, faults, readOf, refusal, cleared, halted, refused}
 use Rattle.session.proofs.SetLaws.{clash}
 
 -- ---- tests
@@ -112,7 +112,7 @@ module _ (derive : ℕ → ℕ) (t : List ℕ) where
 
   pub refused-ended : (n : ℕ) (s : Session) (c : Content) → Ended s (refused derive t n s c)
   unfolding refused
-  refused-ended n s (slice size offset salt width ids hashes counts) = go (eqb n 9 || eqb n 10)
+  refused-ended n s (slice size offset salt width ids hashes counts) = go (clears n)
     where
       r : Read
       r = readOf derive t s (slice size offset salt width ids hashes counts) size salt

@@ -1,11 +1,11 @@
 -- The turn of IBF LAST is the session's step of it. Assumes nothing.
 use mathlib.Core.Path.{_≡_, refl, sym, ap, ap₂, _∙_}
-use mathlib.Core.Bool.{Bool, true, false, not, _&&_, _||_, cond}
+use mathlib.Core.Bool.{Bool, true, false, not, _&&_, cond}
 use mathlib.Core.List.{List, [], _++_}
 use Prim.Native.Nat.{ℕ, suc, _+_, _≤_}
 use native.Mathlib.Numerals.{add-one}
 use native.Mathlib.Omega.{arith}
-use lib.Dec.{eqb, ltb, leb}
+use lib.Dec.{ltb, leb}
 use lib.ListN.{length, length-append, length-map}
 use lib.Seq.{length-take-le}
 use Rattle.bucket.specs.Bucket.{𝟎}
@@ -17,7 +17,7 @@ use Rattle.message.specs.Layout.{Content, slice, Slice}
 use Rattle.message.specs.Writing.{layouts}
 use Rattle.session.specs.Sets.{count}
 use Rattle.session.specs.Grid.{PASSIVE, isLast}
-use Rattle.session.specs.Session.{Session, noLedger, Outcome, nextSalt, nextSize, ownFilter, acts, isComplete, isFalse, oursIn, theirsIn, idsOf, readingAt, tooMany, refused, act, onSlice, decoded, swapped, cleared}
+use Rattle.session.specs.Session.{Session, noLedger, Outcome, nextSalt, nextSize, ownFilter, acts, clears, isComplete, isFalse, oursIn, theirsIn, idsOf, readingAt, tooMany, refused, act, onSlice, decoded, swapped, cleared}
 use Rattle.session.specs.Calls.{Given, Left, left, numbered, answered, inState, tableOf, sessionOf, ended, went, stepOn}
 use Rattle.session.specs.Turns.{aborted, admitsSlice, isPlaced, fateOf, openTurn, swappedNumbers, LastTurn, lastTurn′, untouched, wiped, kept, readTurn, lastTurn}
 use Rattle.session.proofs.ListLaws.{distinct-append, count-distinct}
@@ -69,7 +69,7 @@ module _ (G : Given) (s : Sound G) (empty : sessionIn G .ledger ≡ noLedger) (c
     (r : Read) (k : Known (tableOf G) size r)
     (acted : actIn G c
     ≡ cond (isComplete r) (decoded firstEight (tableOf G) (sessionIn G) r size salt) (swapped firstEight (tableOf G) (sessionIn G) r size salt))
-    (clears : (n : ℕ) → eqb n 9 || eqb n 10 ≡ true → refused firstEight (tableOf G) n (sessionIn G) c ≡ cleared firstEight (tableOf G) (sessionIn G) r size) where
+    (zeroes : (n : ℕ) → clears n ≡ true → refused firstEight (tableOf G) n (sessionIn G) c ≡ cleared firstEight (tableOf G) (sessionIn G) r size) where
   abbrev leaves : LastTurn → Left
   leaves x = left (x .answer) (G .records) (x .marks) (x .inquired) (x .read .columns) (x .read .ours) (x .read .theirs) (x .out)
 
@@ -77,13 +77,13 @@ module _ (G : Given) (s : Sound G) (empty : sessionIn G .ledger ≡ noLedger) (c
   abbrev wipes : ℕ → LastTurn
   wipes n = lastTurn′ (aborted n (G .numbers)) (G .marks) (G .inquired) (wiped size r) (G .out)
 
-  wipes-tie : (n : ℕ) → acts n ≡ false → eqb n 9 || eqb n 10 ≡ true → refusalIn G c ≡ n → leaves (wipes n) ≡ stepOn firstEight c G
+  wipes-tie : (n : ℕ) → acts n ≡ false → clears n ≡ true → refusalIn G c ≡ n → leaves (wipes n) ≡ stepOn firstEight c G
   unfolding cleared
   wipes-tie n stays is e =
       sym (step-by G c n e
       ∙ ap (λ (b : Bool). cond b (went firstEight n (actIn G c) G)
       (ended n (refused firstEight (tableOf G) n (sessionIn G) c) G)) stays
-      ∙ ap (λ (u : Session). ended n u G) (clears n is)
+      ∙ ap (λ (u : Session). ended n u G) (zeroes n is)
       ∙ (λ i. left (answered n 0 0 (inState (stops G s i) (G .numbers))) (G .records) (G .marks) (G .inquired)
       (filled size (λ j. 𝟎) (r .columns)) (listedInto size [] (r .ours)) (listedInto size [] (r .theirs)) (G .out)))
 
@@ -133,7 +133,7 @@ module _ (G : Given) (s : Sound G) (empty : sessionIn G .ledger ≡ noLedger) (c
 
   -- each way
   abbrev turnBy : Bool → ℕ → LastTurn
-  turnBy b f = cond (eqb f 9 || eqb f 10) (wipes f) (cond b opens (swaps f))
+  turnBy b f = cond (clears f) (wipes f) (cond b opens (swaps f))
 
   read-tie : refusalIn G c ≡ readFault true (tableOf G) (G .numbers .swaps) r
       → leaves (readTurn (G .numbers) (G .table) size salt r (G .marks) (G .inquired) (G .out)) ≡ stepOn firstEight c G
@@ -182,9 +182,9 @@ module _ (G : Given) (s : Sound G) (size offset salt width : ℕ) (ids hashes co
   unfolding act onSlice sessionOf
   acted = rw e
 
-  clears : (n : ℕ) → eqb n 9 || eqb n 10 ≡ true → refused firstEight (tableOf G) n (sessionIn G) c ≡ cleared firstEight (tableOf G) (sessionIn G) read size
+  zeroes : (n : ℕ) → clears n ≡ true → refused firstEight (tableOf G) n (sessionIn G) c ≡ cleared firstEight (tableOf G) (sessionIn G) read size
   unfolding sessionOf
-  clears n = refusal-cleared firstEight (tableOf G) n (sessionIn G) size offset salt width ids hashes counts
+  zeroes n = refusal-cleared firstEight (tableOf G) n (sessionIn G) size offset salt width ids hashes counts
 
   pub last-tie : let x = lastTurn (G .numbers) (G .table) c size offset salt width (G .columns) (G .ours) (G .theirs) (G .marks) (G .inquired) (G .out) in
       left (x .answer) (G .records) (x .marks) (x .inquired) (x .read .columns) (x .read .ours) (x .read .theirs) (x .out) ≡ stepOn firstEight c G
@@ -199,6 +199,6 @@ module _ (G : Given) (s : Sound G) (size offset salt width : ℕ) (ids hashes co
           (lastTurn′ (aborted 4 (G .numbers)) (G .marks) (G .inquired) (untouched (G .columns) (G .ours) (G .theirs)) (G .out)))
           (lastTurn′ (aborted 5 (G .numbers)) (G .marks) (G .inquired) (untouched (G .columns) (G .ours) (G .theirs)) (G .out)) in
           left (x .answer) (G .records) (x .marks) (x .inquired) (x .read .columns) (x .read .ours) (x .read .theirs) (x .out) ≡ stepOn firstEight c G
-      go true q true f = read-tie G s (idles q) c size salt (ranges size offset salt width (good .ranges) .high) read reads acted clears f
+      go true q true f = read-tie G s (idles q) c size salt (ranges size offset salt width (good .ranges) .high) read reads acted zeroes f
       go true q false f = halts G s c 4 refl refl f
       go false q p f = halts G s c 5 refl refl f

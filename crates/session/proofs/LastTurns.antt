@@ -1,6 +1,6 @@
 -- What the slice that completes a filter leads to, by how its reading ended. Assumes nothing.
 use mathlib.Core.Path.{_≡_, refl, sym, ap, ap₂, subst, _∙_}
-use mathlib.Core.Bool.{Bool, true, false, _||_, cond, true≢false}
+use mathlib.Core.Bool.{Bool, true, false, cond, true≢false}
 use mathlib.Core.List.{List}
 use Prim.Native.Nat.{ℕ, _+_, _≤_, _<_}
 use native.Mathlib.Omega.{arith}
@@ -21,7 +21,7 @@ use Rattle.message.specs.Writing.{layouts}
 use Rattle.session.specs.declared.filters.Fate.{Fate}
 use Rattle.session.specs.declared.numbers.Numbers.{Numbers}
 use Rattle.session.specs.declared.numbers.Answer.{Answer}
-use Rattle.session.specs.Session.{nextSalt, nextSize, isComplete, oursIn, theirsIn, ownFilter, readingAt}
+use Rattle.session.specs.Session.{nextSalt, nextSize, isComplete, oursIn, theirsIn, ownFilter, clears, readingAt}
 use Rattle.session.specs.Calls.{answered}
 use Rattle.session.specs.Turns.{aborted, admitsSlice, isPlaced, OpenTurn, openTurn, openTurn′, swappedNumbers, LastTurn, lastTurn, lastTurn′, fateOf, untouched, wiped, kept, readTurn}
 use Rattle.session.specs.Ready.{Opens, Reads, Fated}
@@ -94,14 +94,14 @@ module _ (N : Numbers) (table : List ℕ) (size salt : ℕ) (r : Read) (M I out 
     whole : f .complete ≡ isComplete r
     whole = ap (λ (g : Fate). g .complete) told
 
-    decided : {a b : Bool} → eqb (f .refusal) 9 || eqb (f .refusal) 10 ≡ a → f .complete ≡ b → ended (f .refusal) a b ≡ readTurn N table size salt r M I out
+    decided : {a b : Bool} → clears (f .refusal) ≡ a → f .complete ≡ b → ended (f .refusal) a b ≡ readTurn N table size salt r M I out
     unfolding readTurn
-    decided p q = λ i. ended (number i) ((sym p ∙ ap (λ (n : ℕ). eqb n 9 || eqb n 10) number) i) ((sym q ∙ whole) i)
+    decided p q = λ i. ended (number i) ((sym p ∙ ap clears number) i) ((sym q ∙ whole) i)
 
-    pub read-stops : eqb (f .refusal) 9 || eqb (f .refusal) 10 ≡ true → lastTurn′ (aborted (f .refusal) N) M I (wiped size r) out ≡ readTurn N table size salt r M I out
+    pub read-stops : clears (f .refusal) ≡ true → lastTurn′ (aborted (f .refusal) N) M I (wiped size r) out ≡ readTurn N table size salt r M I out
     read-stops p = decided p refl
 
-    module _ (p : eqb (f .refusal) 9 || eqb (f .refusal) 10 ≡ false) where
+    module _ (p : clears (f .refusal) ≡ false) where
       pub read-opens : f .complete ≡ true → {a : Answer} {M′ I′ out′ : List ℕ} → openTurn′ a M′ I′ out′ ≡ openTurn N table size salt (oursIn r) (theirsIn r) M I out
           → lastTurn′ a M′ I′ (kept r) out′ ≡ readTurn N table size salt r M I out
       read-opens q e = ap (λ (o : OpenTurn). lastTurn′ (o .answer) (o .marks) (o .inquired) (kept r) (o .out)) e ∙ decided p q
@@ -122,7 +122,7 @@ module _ (N : Numbers) (table : List ℕ) (size salt : ℕ) (r : Read) (M I out 
         swaps-few = go (leb 16 (N .swaps)) refl
           where
             go : (b : Bool) → leb 16 (N .swaps) ≡ b → N .swaps < 16
-            go true e = absurd (true≢false (sym (ap (λ (n : ℕ). eqb n 9 || eqb n 10) (seventeenth e)) ∙ p))
+            go true e = absurd (true≢false (sym (ap clears (seventeenth e)) ∙ p))
             go false e = leb-false 16 (N .swaps) e
 
 -- ---- the message

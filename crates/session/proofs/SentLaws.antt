@@ -11,7 +11,7 @@
 -- Assumes nothing.
 use mathlib.Core.Path.{_≡_, refl, sym, subst}
 use mathlib.Core.Logic.{_⊎_, inl, inr, _≢_}
-use mathlib.Core.Bool.{Bool, true, false, _&&_, _||_, cond}
+use mathlib.Core.Bool.{Bool, true, false, _&&_, cond}
 use mathlib.Core.List.{List, [], _∷_, _++_}
 use Prim.Native.Nat.{ℕ, _+_, _^_, _≤_, _<_}
 use native.Mathlib.Omega.{arith}
@@ -35,7 +35,7 @@ use Rattle.message.proofs.PieceLaws.{inquiries-good, offers-good, demands-good}
 use Rattle.message.proofs.WholeLaws.{take-below}
 use Rattle.session.specs.Sets.{isNil, _∪_}
 use Rattle.session.specs.Grid.{ACTIVE, PASSIVE, WAITING, isLast}
-use Rattle.session.specs.Session.{Ledger, Session, Outcome, «in», answer, turn, gaining, doneGoes, unmet, nextSalt, nextSize, isComplete, oursIn, theirsIn, ownFilter, sliced, acts, firstFault, idsOf, held, heldIds, checksum, allCame, hashesFor, asks, new, readOf, lastOne, faults, refusal, ownDone, swapped, decoded, onSlice, onElement, onDone, act, cleared, halted, refused, step}
+use Rattle.session.specs.Session.{Ledger, Session, Outcome, «in», answer, turn, gaining, doneGoes, unmet, nextSalt, nextSize, isComplete, oursIn, theirsIn, ownFilter, sliced, acts, clears, firstFault, idsOf, held, heldIds, checksum, allCame, hashesFor, asks, new, readOf, lastOne, faults, refusal, ownDone, swapped, decoded, onSlice, onElement, onDone, act, cleared, halted, refused, step}
 use Rattle.session.proofs.SetLaws.{_∈_, _⊆_, select-in, insert-in, ∪-in}
 use Rattle.session.proofs.ListLaws.{news-in}
 use Rattle.session.proofs.BookLaws.{Table, Form}
@@ -245,7 +245,7 @@ module _ (derive : ℕ → ℕ) (bound : (h : ℕ) → h < 2 ^ 512 → derive h 
 
   narrow-refused : (m : ℕ) (s : Session) (c : Content) → Narrow s → Good c → Narrow (refused derive t m s c)
   unfolding refused cleared
-  narrow-refused m s (slice size offset salt width ids hashes counts) n g = go (eqb m 9 || eqb m 10)
+  narrow-refused m s (slice size offset salt width ids hashes counts) n g = go (clears m)
     where
       c : Content
       c = slice size offset salt width ids hashes counts

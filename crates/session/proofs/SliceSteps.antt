@@ -1,7 +1,7 @@
 -- What the ties of both slices share: a step by its refusal, the grid's entry and the order of slices, a refusal that changes the state alone,
 -- and a step that leaves the ledger as it is. Assumes nothing.
 use mathlib.Core.Path.{_≡_, refl, ap, ap₂, _∙_}
-use mathlib.Core.Bool.{Bool, true, false, not, _&&_, _||_, cond}
+use mathlib.Core.Bool.{Bool, true, false, not, _&&_, cond}
 use mathlib.Core.List.{List, [], _∷_, _++_, append-nil}
 use Prim.Native.Nat.{ℕ}
 use native.Mathlib.Omega.{arith}
@@ -18,7 +18,7 @@ use Rattle.message.specs.Writing.{layouts}
 use Rattle.message.proofs.WholeLaws.{packed-nil}
 use Rattle.session.specs.declared.numbers.Numbers.{Numbers}
 use Rattle.session.specs.Grid.{PASSIVE, FINISHED, ABORTED, isLast, entry}
-use Rattle.session.specs.Session.{Ledger, Session, answer, firstFault, acts, stopped, admitted, placed, isComplete, isFalse, readingAt, tooMany, refusal, faults, refused}
+use Rattle.session.specs.Session.{Ledger, Session, answer, firstFault, acts, clears, stopped, admitted, placed, isComplete, isFalse, readingAt, tooMany, refusal, faults, refused}
 use Rattle.session.specs.Memory.{bit, marksOf, flagsOf}
 use Rattle.session.specs.Calls.{Given, left, numbered, answered, numbersOf, tableOf, hashGiven, sessionOf, ended, went, stepOn}
 use Rattle.session.specs.Turns.{aborted, admitsSlice, isPlaced}
@@ -45,7 +45,7 @@ module _ (G : Given) (s : Sound G) where
   stops = ap (λ (b : Bool). cond b FINISHED ABORTED) (ne-eqb (G .numbers .state) FINISHED (λ e. absurd (omega (arith, s .state))))
 
   -- a refusal that changes the state alone: neither 9 nor 10
-  pub halts : (c : Content) (n : ℕ) → acts n ≡ false → eqb n 9 || eqb n 10 ≡ false → refusalIn G c ≡ n
+  pub halts : (c : Content) (n : ℕ) → acts n ≡ false → clears n ≡ false → refusalIn G c ≡ n
       → left (aborted n (G .numbers)) (G .records) (G .marks) (G .inquired) (G .columns) (G .ours) (G .theirs) (G .out) ≡ stepOn firstEight c G
   halts c n stays other e = halted-tie G s c n stays (refusal-buffers firstEight (tableOf G) n (sessionIn G) c other) e
 

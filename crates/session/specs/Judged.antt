@@ -7,10 +7,12 @@ use lib.IntN.{ℤ}
 use lib.ListN.{length, take}
 use Rattle.bucket.specs.Digits.{joined, unpacked}
 use Rattle.bucket.specs.Lists.{part}
+use Rattle.filter.specs.declared.answers.Refusal.the-variants.{Malformed}
+use Rattle.filter.specs.Answers.{refusalNumber}
 use Rattle.filter.specs.Calls.{inRange, areCounts}
 use Rattle.filter.specs.Table.{firstEight, hashesOf, isTable}
 use Rattle.message.specs.declared.kinds.Message.{Message}
-use Rattle.message.specs.declared.kinds.Message.the-variants.{Ibf, IbfLast, Inquiry, Offer, Demand, Element, Done, Malformed}
+use Rattle.message.specs.declared.kinds.Message.the-variants.{Ibf, IbfLast, Inquiry, Offer, Demand, Element, Done}
 use Rattle.session.specs.declared.numbers.Numbers.{Numbers}
 use Rattle.session.specs.declared.numbers.Answer.{Answer}
 use Rattle.session.specs.declared.tallying.Tally.{Tally}
@@ -76,6 +78,6 @@ ledgerTurn N table R M I hash bs out (Element n) T =
 ledgerTurn N table R M I hash bs out Done T =
     let x = doneTurn N (hashesOf table) (hashesOf (take (64 * N .demanded) R)) M (part 4 64 bs) (T .unmet) R out in
     ledgerTurn′ (x .answer) (x .records) M (x .out)
-ledgerTurn N table R M I hash bs out (Ibf size offset salt width n) T = ledgerTurn′ (aborted 4 N) R M out
-ledgerTurn N table R M I hash bs out (IbfLast size offset salt width n) T = ledgerTurn′ (aborted 4 N) R M out
-ledgerTurn N table R M I hash bs out Malformed T = ledgerTurn′ (aborted 4 N) R M out
+ledgerTurn N table R M I hash bs out (Ibf size offset salt width n) T = ledgerTurn′ (aborted (refusalNumber Malformed) N) R M out
+ledgerTurn N table R M I hash bs out (IbfLast size offset salt width n) T = ledgerTurn′ (aborted (refusalNumber Malformed) N) R M out
+ledgerTurn N table R M I hash bs out Message.Malformed T = ledgerTurn′ (aborted (refusalNumber Malformed) N) R M out

@@ -20,6 +20,8 @@ use lib.ListN.{take, replicate}
 use Rattle.bucket.specs.Bucket.{𝟎}
 use Rattle.bucket.specs.Columns.{Columns, columns, view}
 use Rattle.bucket.specs.Lists.{elem}
+use Rattle.filter.specs.declared.answers.Refusal.the-variants.{Malformed, OutOfTurn, FalseReading, Breach, Checksum, Swaps, Limit}
+use Rattle.filter.specs.Answers.{refusalNumber}
 use Rattle.filter.specs.Lists.{select}
 use Rattle.filter.specs.Filter.{filterRule, filterOf, difference}
 use Rattle.filter.specs.Peeling.{reading, verdict}
@@ -134,7 +136,7 @@ abbrev pub isComplete : Read → Bool
 isComplete r = eqb (r .answer .complete) 1
 
 abbrev pub isFalse : Read → Bool
-isFalse r = eqb (r .answer .refusal) 6
+isFalse r = eqb (r .answer .refusal) (refusalNumber FalseReading)
 
 abbrev pub oursIn : Read → List ℕ
 oursIn r = take (r .answer .ours) (r .ours)
@@ -155,7 +157,11 @@ sliced s c size salt width =
 
 -- refusals beside which the message is acted on: none, and 6 beside a swap
 abbrev pub acts : ℕ → Bool
-acts n = eqb n 0 || eqb n 6
+acts n = eqb n 0 || eqb n (refusalNumber FalseReading)
+
+-- refusals that leave "columns and lists all zero" after a reading
+abbrev pub clears : ℕ → Bool
+clears n = eqb n (refusalNumber Swaps) || eqb n (refusalNumber Limit)
 
 -- a refusal ends the session; "states 6 and 7 stay"
 abbrev pub stopped : ℕ → ℕ
@@ -247,30 +253,30 @@ module _ (derive : ℕ → ℕ) (table : List ℕ) where
   faults h s (slice size offset salt width ids hashes counts) =
       let r = readOf s (slice size offset salt width ids hashes counts) size salt in
       let whole = isLast size offset in
-      (4, not (placed s size offset salt width))
-      ∷ (10, whole && tooMany r)
-      ∷ (9, whole && (not (isComplete r) && leb 16 (s .swaps)))
-      ∷ (6, whole && isFalse r)
+      (refusalNumber Malformed, not (placed s size offset salt width))
+      ∷ (refusalNumber Limit, whole && tooMany r)
+      ∷ (refusalNumber Swaps, whole && (not (isComplete r) && leb 16 (s .swaps)))
+      ∷ (refusalNumber FalseReading, whole && isFalse r)
       ∷ []
   faults h s (inquiry salt xs) =
-      (7, not (eqb salt (s .salt)) || not (once (s .ledger .asked) (asks (s .ledger) xs))) ∷ []
+      (refusalNumber Breach, not (eqb salt (s .salt)) || not (once (s .ledger .asked) (asks (s .ledger) xs))) ∷ []
   faults h s (offer hs) =
-      (7, strange s (new (s .ledger) hs))
-      ∷ (10, ltb 4096 (count (concerned (s .ledger) ++ idsOf derive (new (s .ledger) hs))))
+      (refusalNumber Breach, strange s (new (s .ledger) hs))
+      ∷ (refusalNumber Limit, ltb 4096 (count (concerned (s .ledger) ++ idsOf derive (new (s .ledger) hs))))
       ∷ []
   faults h s (demand hs) =
-      (7, not (all (λ x. elem x (s .ledger .offered)) hs) || not (once (s .ledger .served) hs)) ∷ []
+      (refusalNumber Breach, not (all (λ x. elem x (s .ledger .offered)) hs) || not (once (s .ledger .served) hs)) ∷ []
   faults h s (element bytes) =
-      (7, not (elem h (unmet (s .ledger))))
-      ∷ (8, lastOne s (gaining h (s .ledger)) && differs (s .far) (gaining h (s .ledger)))
+      (refusalNumber Breach, not (elem h (unmet (s .ledger))))
+      ∷ (refusalNumber Checksum, lastOne s (gaining h (s .ledger)) && differs (s .far) (gaining h (s .ledger)))
       ∷ []
   faults h s (done check) =
-      (5, «in» s ACTIVE && not (s .ledger .doneWent))
-      ∷ (8, isNil (unmet (s .ledger)) && differs check (s .ledger))
+      (refusalNumber OutOfTurn, «in» s ACTIVE && not (s .ledger .doneWent))
+      ∷ (refusalNumber Checksum, isNil (unmet (s .ledger)) && differs check (s .ledger))
       ∷ []
 
   unfoldable pub refusal : ℕ → Session → Content → ℕ
-  refusal h s c = cond (admitted s c) (firstFault (faults h s c)) 5
+  refusal h s c = cond (admitted s c) (firstFault (faults h s c)) (refusalNumber OutOfTurn)
 
   -- ---- what is done
 
@@ -348,7 +354,7 @@ module _ (derive : ℕ → ℕ) (table : List ℕ) where
 
   unfoldable pub refused : ℕ → Session → Content → Session
   refused n s (slice size offset salt width ids hashes counts) =
-      cond (eqb n 9 || eqb n 10) (cleared s (readOf s (slice size offset salt width ids hashes counts) size salt) size) (halted s)
+      cond (clears n) (cleared s (readOf s (slice size offset salt width ids hashes counts) size salt) size) (halted s)
   refused n s (inquiry salt xs) = halted s
   refused n s (offer hs) = halted s
   refused n s (demand hs) = halted s

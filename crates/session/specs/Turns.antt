@@ -11,6 +11,8 @@ use Rattle.bucket.specs.Columns.{Columns}
 use Rattle.bucket.specs.Digits.{joined, packed}
 use Rattle.bucket.specs.Lists.{over, part}
 use Rattle.filter.specs.declared.answers.Answer.{Answer as ReadAnswer}
+use Rattle.filter.specs.declared.answers.Refusal.the-variants.{Malformed, OutOfTurn, Breach, Checksum, Swaps, Limit}
+use Rattle.filter.specs.Answers.{refusalNumber}
 use Rattle.filter.specs.Calls.{Read, unread, filled, listedInto}
 use Rattle.filter.specs.Lists.{ascending}
 use Rattle.filter.specs.Table.{firstEight, hashesOf, idsOf, isTable, position}
@@ -22,7 +24,7 @@ use Rattle.session.specs.declared.numbers.Answer.{Answer}
 use Rattle.session.specs.declared.tallying.Tally.{Tally}
 use Rattle.session.specs.Sets.{implies, same}
 use Rattle.session.specs.Grid.{EXPECTING, EXPECTING-LAST, ACTIVE, PASSIVE, CLOSING, WAITING, FINISHED, ABORTED, entry}
-use Rattle.session.specs.Session.{nextSalt, nextSize, ownFilter, isComplete, oursIn, theirsIn, readingAt}
+use Rattle.session.specs.Session.{nextSalt, nextSize, ownFilter, isComplete, oursIn, theirsIn, clears, readingAt}
 use Rattle.session.specs.Memory.{isMet}
 use Rattle.session.specs.Calls.{numbered, answered, inState}
 use Rattle.session.specs.Moves.{placeOfHash, askAll, serveAll, newAll, extra, Stored, stored, storeAll, insertedAll, tableMark, recordMark, allOf, metCount, isZero, common, checkOf}
@@ -92,9 +94,9 @@ inquiryTurn N t K salt xs M out =
     (cond (eqb salt (N .salt))
     (cond (w .fine)
     (markTurn (answered 0 (length (layouts cs)) 0 (onward N)) (over 0 (w .marks) M) (over 0 (layouts cs) out))
-    (markTurn (aborted 7 N) M out))
-    (markTurn (aborted 7 N) M out))
-    (markTurn (aborted 5 N) M out)
+    (markTurn (aborted (refusalNumber Breach) N) M out))
+    (markTurn (aborted (refusalNumber Breach) N) M out))
+    (markTurn (aborted (refusalNumber OutOfTurn) N) M out)
 
 unfoldable pub demandTurn : Numbers → List ℕ → List ℕ → List ℕ → List ℕ → List ℕ → MarkTurn
 demandTurn N t K hs M out =
@@ -102,8 +104,8 @@ demandTurn N t K hs M out =
     cond (entry (N .state) 4)
     (cond (w .fine)
     (markTurn (answered 0 0 (length hs) (onward N)) (over 0 (w .marks) M) (over 0 (packed 512 hs) out))
-    (markTurn (aborted 7 N) M out))
-    (markTurn (aborted 5 N) M out)
+    (markTurn (aborted (refusalNumber Breach) N) M out))
+    (markTurn (aborted (refusalNumber OutOfTurn) N) M out)
 
 -- far is the far checksum, h the element's hash
 abbrev pub isClosing : Numbers → ℕ → Bool
@@ -124,10 +126,10 @@ elementTurn N t K far h came unmet M out =
     cond (entry (N .state) 5)
     (cond (leb 4096 p && (ltb p 8192 && not (isMet (getD M p 0))))
     (cond (isClosing N unmet && not (eqb far check))
-    (markTurn (aborted 8 N) M out)
+    (markTurn (aborted (refusalNumber Checksum) N) M out)
     (markTurn (answered 0 (length (layouts cs)) 0 (withElement N came unmet)) (set M p 8) (over 0 (layouts cs) out)))
-    (markTurn (aborted 7 N) M out))
-    (markTurn (aborted 5 N) M out)
+    (markTurn (aborted (refusalNumber Breach) N) M out))
+    (markTurn (aborted (refusalNumber OutOfTurn) N) M out)
 
 -- ---- DONE: the far checksum may be kept
 
@@ -149,15 +151,15 @@ doneTurn N t K M far unmet R out =
     let cs = done check ∷ [] in
     cond (entry (N .state) 6)
     (cond (eqb (N .state) ACTIVE && not (eqb (N .done) 1))
-    (endTurn (aborted 5 N) R out)
+    (endTurn (aborted (refusalNumber OutOfTurn) N) R out)
     (cond (eqb unmet 0)
     (cond (eqb (joined 8 far) check)
     (cond (eqb (N .state) PASSIVE)
     (endTurn (answered 0 (length (layouts cs)) 0 (closed N FINISHED 1)) R (over 0 (layouts cs) out))
     (endTurn (answered 0 0 0 (closed N FINISHED (N .done))) R out))
-    (endTurn (aborted 8 N) R out))
+    (endTurn (aborted (refusalNumber Checksum) N) R out))
     (endTurn (answered 0 0 0 (closed N (cond (eqb (N .state) ACTIVE) CLOSING WAITING) (N .done))) (over 262144 far R) out)))
-    (endTurn (aborted 5 N) R out)
+    (endTurn (aborted (refusalNumber OutOfTurn) N) R out)
 
 -- ---- OFFER: new hashes are demanded
 
@@ -182,10 +184,10 @@ offerTurn N t K I hs concerned R M out =
     cond (entry (N .state) 3)
     (cond (w .fine)
     (cond (ltb 4096 (concerned + extra firstEight I (w .hashes)) || ltb 4096 (n + m))
-    (offerTurn′ (aborted 10 N) (stored R M) out)
+    (offerTurn′ (aborted (refusalNumber Limit) N) (stored R M) out)
     (offerTurn′ (answered 0 (length (layouts cs)) 0 (withDemanded N (n + m))) (storeAll n (w .hashes) (stored R M)) (over 0 (layouts cs) out)))
-    (offerTurn′ (aborted 7 N) (stored R M) out))
-    (offerTurn′ (aborted 5 N) (stored R M) out)
+    (offerTurn′ (aborted (refusalNumber Breach) N) (stored R M) out))
+    (offerTurn′ (aborted (refusalNumber OutOfTurn) N) (stored R M) out)
 
 -- ---- slices
 
@@ -252,8 +254,8 @@ sliceTurn N c size offset salt width cols =
     cond (admitsSlice N 0)
     (cond (isPlaced N size offset salt width)
     (sliceTurn′ (answered 0 0 0 (slicedNumbers N size salt width)) (laid c cols))
-    (sliceTurn′ (aborted 4 N) cols))
-    (sliceTurn′ (aborted 5 N) cols)
+    (sliceTurn′ (aborted (refusalNumber Malformed) N) cols))
+    (sliceTurn′ (aborted (refusalNumber OutOfTurn) N) cols)
 
 -- everything that the last slice may change
 pub record LastTurn : Type 0 where
@@ -265,7 +267,7 @@ pub record LastTurn : Type 0 where
 
 -- the session ends, or goes on, by how the reading ended
 unfoldable pub fateOf : ReadAnswer → ℕ → ℕ → ℕ
-fateOf a nt swaps = cond (eqb (a .complete) 1) (cond (ltb 4096 (nt + a .theirs)) 10 0) (cond (leb 16 swaps) 9 (a .refusal))
+fateOf a nt swaps = cond (eqb (a .complete) 1) (cond (ltb 4096 (nt + a .theirs)) (refusalNumber Limit) 0) (cond (leb 16 swaps) (refusalNumber Swaps) (a .refusal))
 
 abbrev pub lastTurn′ : Answer → List ℕ → List ℕ → Read → List ℕ → LastTurn
 lastTurn′ a M I r out = record { answer = a; marks = M; inquired = I; read = r; out = out }
@@ -285,7 +287,7 @@ readTurn N table size salt r M I out =
     let f = fateOf (r .answer) (length (hashesOf table)) (N .swaps) in
     let o = openTurn N table size salt (oursIn r) (theirsIn r) M I out in
     let cs = ownFilter (idsOf firstEight table) (nextSize size) (nextSalt salt) in
-    cond (eqb f 9 || eqb f 10) (lastTurn′ (aborted f N) M I (wiped size r) out)
+    cond (clears f) (lastTurn′ (aborted f N) M I (wiped size r) out)
     (cond (isComplete r) (lastTurn′ (o .answer) (o .marks) (o .inquired) (kept r) (o .out))
     (lastTurn′ (answered f (length (layouts cs)) 0 (swappedNumbers N size salt)) M I (kept r) (over 0 (layouts cs) out)))
 
@@ -294,5 +296,5 @@ lastTurn N table c size offset salt width cols o th M I out =
     cond (admitsSlice N 1)
     (cond (isPlaced N size offset salt width)
     (readTurn N table size salt (readingAt firstEight (hashesOf table) size salt (laid c cols) o th) M I out)
-    (lastTurn′ (aborted 4 N) M I (untouched cols o th) out))
-    (lastTurn′ (aborted 5 N) M I (untouched cols o th) out)
+    (lastTurn′ (aborted (refusalNumber Malformed) N) M I (untouched cols o th) out))
+    (lastTurn′ (aborted (refusalNumber OutOfTurn) N) M I (untouched cols o th) out)

@@ -9,9 +9,12 @@ ghost use Rattle.session.specs.Ready.{Kept};
 ghost use Rattle.session.specs.Turns.{markTurn, elementTurn, endTurn, doneTurn};
 use crate::numbers::ACTIVE;
 use crate::numbers::Answer;
+use crate::numbers::BREACH;
+use crate::numbers::CHECKSUM;
 use crate::numbers::CLOSING;
 use crate::numbers::FINISHED;
 use crate::numbers::Numbers;
+use crate::numbers::OUT_OF_TURN;
 use crate::numbers::PASSIVE;
 use crate::numbers::WAITING;
 
@@ -35,18 +38,18 @@ pub(crate) fn on_element(
         ≡ elementTurn numbers (hashesOf (now (table .entry))) (hashesOf (take (64 * numbers .demanded) (now (records .entry)))) (joined 8 (part 262144 64 (now (records .entry)))) (joined 8 (take 64 (now (hash .entry)))) came unmet (now (marks .entry)) (now (out .entry)) ⌝ }
 {
     if !crate::grid::admits(numbers.state, crate::grid::ELEMENT) {
-        return crate::numbers::aborted(5, numbers);
+        return crate::numbers::aborted(OUT_OF_TURN, numbers);
     }
     let e = 64 * numbers.demanded as usize;
     let p = crate::places::place_of_hash(table, &records[..e], hash, 0);
     if p < crate::places::RECORDS {
-        return crate::numbers::aborted(7, numbers);
+        return crate::numbers::aborted(BREACH, numbers);
     }
     if crate::places::NOWHERE <= p {
-        return crate::numbers::aborted(7, numbers);
+        return crate::numbers::aborted(BREACH, numbers);
     }
     if crate::places::is_met(marks[p]) {
-        return crate::numbers::aborted(7, numbers);
+        return crate::numbers::aborted(BREACH, numbers);
     }
     let state = numbers.state;
     let closing = ((state == CLOSING) | (state == WAITING)) & (unmet == 1);
@@ -60,7 +63,7 @@ pub(crate) fn on_element(
     crate::checking::xor_into(&mut check, hash, 0);
     if closing {
         if !crate::places::same_hash(records, FAR, &check, 0) {
-            return crate::numbers::aborted(8, numbers);
+            return crate::numbers::aborted(CHECKSUM, numbers);
         }
     }
     marks[p] = 8;
@@ -88,10 +91,10 @@ pub(crate) fn on_done(
 {
     let state = numbers.state;
     if !crate::grid::admits(state, crate::grid::DONE) {
-        return crate::numbers::aborted(5, numbers);
+        return crate::numbers::aborted(OUT_OF_TURN, numbers);
     }
     if (state == ACTIVE) & !(numbers.done == 1) {
-        return crate::numbers::aborted(5, numbers);
+        return crate::numbers::aborted(OUT_OF_TURN, numbers);
     }
     if unmet != 0 {
         crate::copying::copy(message, 4, 64, records, FAR);
@@ -101,7 +104,7 @@ pub(crate) fn on_done(
     let e = 64 * numbers.demanded as usize;
     let check = crate::checking::checksum(table, &records[..e], marks);
     if !crate::places::same_hash(message, 4, &check, 0) {
-        return crate::numbers::aborted(8, numbers);
+        return crate::numbers::aborted(CHECKSUM, numbers);
     }
     if state == PASSIVE {
         let sent = crate::sending::send_done(&check, out, 0);

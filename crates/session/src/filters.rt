@@ -7,14 +7,23 @@ ghost use lib.ListN.{length, take};
 ghost use Rattle.bucket.specs.Columns.{columns};
 ghost use Rattle.bucket.specs.Digits.{packed};
 ghost use Rattle.bucket.specs.Lists.{over};
-ghost use Rattle.filter.specs.Answers.{answerOf};
+ghost use Rattle.filter.specs.declared.answers.Refusal.the-variants.{Swaps, Limit};
+ghost use Rattle.filter.specs.Answers.{refusalNumber, answerOf};
 ghost use Rattle.filter.specs.Table.{firstEight, hashesOf, idsOf};
 ghost use Rattle.message.specs.Reading.{content};
 ghost use Rattle.message.specs.Walking.{exactlyOne};
 ghost use Rattle.session.specs.Ready.{Opens, Reads, Lays, fated, Fated};
 ghost use Rattle.session.specs.Turns.{markAll, hashesAt, openTurn, openTurn′, sliceTurn, sliceTurn′, lastTurn, lastTurn′, untouched};
 use crate::numbers::Answer;
+use crate::numbers::FALSE_READING;
+use crate::numbers::FORM;
+use crate::numbers::LIMIT;
+use crate::numbers::MALFORMED;
 use crate::numbers::Numbers;
+use crate::numbers::OUT_OF_TURN;
+use crate::numbers::RANGE;
+use crate::numbers::ROOM;
+use crate::numbers::SWAPS;
 use filter::answers::Reading;
 
 // How a reading ended, in numbers: what it refuses or 0, 9 and 10 among it; whether it is complete; and the lengths of the lists.
@@ -42,10 +51,10 @@ pub(crate) fn on_slice(
         ≡ sliceTurn numbers (content (exactlyOne (now (message .entry))) (now (message .entry))) size offset salt width (columns (now (ids .entry)) (now (hashes .entry)) (now (counts .entry))) ⌝ }
 {
     if !crate::grid::admits_slice(numbers, crate::grid::IBF) {
-        return crate::numbers::aborted(5, numbers);
+        return crate::numbers::aborted(OUT_OF_TURN, numbers);
     }
     if !crate::grid::is_placed(numbers, size, offset, salt, width) {
-        return crate::numbers::aborted(4, numbers);
+        return crate::numbers::aborted(MALFORMED, numbers);
     }
     message::laying::lay(message, ids, hashes, counts);
     crate::numbers::answered(0, 0, crate::numbers::sliced(numbers, size, salt, width))
@@ -74,15 +83,15 @@ pub(crate) fn on_last(
         ≡ lastTurn numbers (now (table .entry)) (content (exactlyOne (now (message .entry))) (now (message .entry))) size offset salt width (columns (now (ids .entry)) (now (hashes .entry)) (now (counts .entry))) (now (ours .entry)) (now (theirs .entry)) (now (marks .entry)) (now (inquired .entry)) (now (out .entry)) ⌝ }
 {
     if !crate::grid::admits_slice(numbers, crate::grid::LAST) {
-        return crate::numbers::aborted(5, numbers);
+        return crate::numbers::aborted(OUT_OF_TURN, numbers);
     }
     if !crate::grid::is_placed(numbers, size, offset, salt, width) {
-        return crate::numbers::aborted(4, numbers);
+        return crate::numbers::aborted(MALFORMED, numbers);
     }
     message::laying::lay(message, ids, hashes, counts);
     let r = filter::reading::read(table, ids, hashes, counts, ours, theirs, size, salt);
     let f = fate_of(r, filter::table::count(table), numbers.swaps);
-    if (f.refusal == 9) | (f.refusal == 10) {
+    if (f.refusal == SWAPS) | (f.refusal == LIMIT) {
         filter::reading::clear(ids, hashes, counts, ours, theirs, size);
         return crate::numbers::aborted(f.refusal, numbers);
     }
@@ -119,20 +128,20 @@ fn fate_of(r: Reading, nt: usize, swaps: u32) -> Fate
     match r {
         Reading::Complete { ours, theirs } => came(nt, ours, theirs),
         Reading::Stuck { ours, theirs } => failed(0, ours, theirs, swaps),
-        Reading::BadForm => failed(1, 0, 0, swaps),
-        Reading::BadRange => failed(3, 0, 0, swaps),
-        Reading::NoRoom => failed(2, 0, 0, swaps),
-        Reading::Untrue => failed(6, 0, 0, swaps),
+        Reading::BadForm => failed(FORM, 0, 0, swaps),
+        Reading::BadRange => failed(RANGE, 0, 0, swaps),
+        Reading::NoRoom => failed(ROOM, 0, 0, swaps),
+        Reading::Untrue => failed(FALSE_READING, 0, 0, swaps),
     }
 }
 
 fn came(nt: usize, ours: usize, theirs: usize) -> Fate
     requires { ⌜ nt ≤ 4096 ⌝ }
-    ensures { λ f. ⌜ f ≡ fated (cond (ltb 4096 (nt + theirs)) 10 0) true ours theirs ⌝ }
+    ensures { λ f. ⌜ f ≡ fated (cond (ltb 4096 (nt + theirs)) (refusalNumber Limit) 0) true ours theirs ⌝ }
 {
     if 4096 - nt < theirs {
         return Fate {
-            refusal: 10,
+            refusal: LIMIT,
             complete: true,
             ours: ours,
             theirs: theirs,
@@ -147,11 +156,11 @@ fn came(nt: usize, ours: usize, theirs: usize) -> Fate
 }
 
 fn failed(refusal: u32, ours: usize, theirs: usize, swaps: u32) -> Fate
-    ensures { λ f. ⌜ f ≡ fated (cond (leb 16 swaps) 9 refusal) false ours theirs ⌝ }
+    ensures { λ f. ⌜ f ≡ fated (cond (leb 16 swaps) (refusalNumber Swaps) refusal) false ours theirs ⌝ }
 {
     if 16 <= swaps {
         return Fate {
-            refusal: 9,
+            refusal: SWAPS,
             complete: false,
             ours: ours,
             theirs: theirs,

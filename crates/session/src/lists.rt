@@ -10,7 +10,10 @@ ghost use Rattle.session.specs.Ready.{Kept};
 ghost use Rattle.session.specs.Turns.{markTurn, inquiryTurn, demandTurn, offerTurn, offerTurn′};
 use crate::numbers::ACTIVE;
 use crate::numbers::Answer;
+use crate::numbers::BREACH;
+use crate::numbers::LIMIT;
 use crate::numbers::Numbers;
+use crate::numbers::OUT_OF_TURN;
 
 pub(crate) fn on_inquiry(
     numbers: Numbers,
@@ -28,10 +31,10 @@ pub(crate) fn on_inquiry(
         ≡ inquiryTurn numbers (hashesOf (now (table .entry))) (hashesOf (take (64 * numbers .demanded) (now (records .entry)))) salt (unpacked 64 n (part 8 (8 * n) (now (message .entry)))) (now (marks .entry)) (now (out .entry)) ⌝ }
 {
     if !crate::grid::admits(numbers.state, crate::grid::INQUIRY) {
-        return crate::numbers::aborted(5, numbers);
+        return crate::numbers::aborted(OUT_OF_TURN, numbers);
     }
     if salt != numbers.salt {
-        return crate::numbers::aborted(7, numbers);
+        return crate::numbers::aborted(BREACH, numbers);
     }
     let e = 64 * numbers.demanded as usize;
     let mut work = [0u8; 8192];
@@ -39,7 +42,7 @@ pub(crate) fn on_inquiry(
     let mut hashes = [0u8; 262144];
     let g = crate::asking::ask_all(table, &records[..e], &mut work, message, n, &mut hashes);
     if !g.fine {
-        return crate::numbers::aborted(7, numbers);
+        return crate::numbers::aborted(BREACH, numbers);
     }
     crate::copying::copy(&work, 0, 8192, marks, 0);
     let to = 64 * g.count;
@@ -62,13 +65,13 @@ pub(crate) fn on_demand(
         ≡ demandTurn numbers (hashesOf (now (table .entry))) (hashesOf (take (64 * numbers .demanded) (now (records .entry)))) (unpacked 512 n (part 4 (64 * n) (now (message .entry)))) (now (marks .entry)) (now (out .entry)) ⌝ }
 {
     if !crate::grid::admits(numbers.state, crate::grid::DEMAND) {
-        return crate::numbers::aborted(5, numbers);
+        return crate::numbers::aborted(OUT_OF_TURN, numbers);
     }
     let e = 64 * numbers.demanded as usize;
     let mut work = [0u8; 8192];
     crate::copying::copy(marks, 0, 8192, &mut work, 0);
     if !crate::asking::serve_all(table, &records[..e], &mut work, message, n) {
-        return crate::numbers::aborted(7, numbers);
+        return crate::numbers::aborted(BREACH, numbers);
     }
     crate::copying::copy(&work, 0, 8192, marks, 0);
     crate::copying::copy(message, 4, 64 * n, out, 0);
@@ -93,7 +96,7 @@ pub(crate) fn on_offer(
         ≡ offerTurn numbers (hashesOf (now (table .entry))) (hashesOf (take (64 * numbers .demanded) (now (records .entry)))) (take (numbers .inquired) (now (inquired .entry))) (unpacked 512 n (part 4 (64 * n) (now (message .entry)))) concerned (now (records .entry)) (now (marks .entry)) (now (out .entry)) ⌝ }
 {
     if !crate::grid::admits(numbers.state, crate::grid::OFFER) {
-        return crate::numbers::aborted(5, numbers);
+        return crate::numbers::aborted(OUT_OF_TURN, numbers);
     }
     let demanded = numbers.demanded as usize;
     let k = numbers.inquired as usize;
@@ -113,12 +116,12 @@ pub(crate) fn on_offer(
         &mut hashes,
     );
     if !g.fine {
-        return crate::numbers::aborted(7, numbers);
+        return crate::numbers::aborted(BREACH, numbers);
     }
     let m = g.count;
     let more = crate::offering::count_extra(&hashes, m, inquired, k);
     if (4096 < concerned + more) | (4096 < demanded + m) {
-        return crate::numbers::aborted(10, numbers);
+        return crate::numbers::aborted(LIMIT, numbers);
     }
     crate::offering::store_all(records, marks, demanded, &hashes, m);
     let to = 64 * m;

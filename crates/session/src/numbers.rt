@@ -20,6 +20,27 @@ pub const FINISHED: u32 = 6;
 
 pub const ABORTED: u32 = 7;
 
+// The refusals (document 01, "Refusal numbers"), as `refusalNumber` numbers the cases of `filter::answers::Refusal`.
+pub(crate) const FORM: u32 = 1;
+
+pub(crate) const ROOM: u32 = 2;
+
+pub(crate) const RANGE: u32 = 3;
+
+pub(crate) const MALFORMED: u32 = 4;
+
+pub(crate) const OUT_OF_TURN: u32 = 5;
+
+pub(crate) const FALSE_READING: u32 = 6;
+
+pub(crate) const BREACH: u32 = 7;
+
+pub(crate) const CHECKSUM: u32 = 8;
+
+pub(crate) const SWAPS: u32 = 9;
+
+pub(crate) const LIMIT: u32 = 10;
+
 // What a caller keeps of a session beside its memory.
 #[repr(C)]
 pub struct Numbers {

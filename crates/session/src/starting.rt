@@ -6,18 +6,21 @@ ghost use Rattle.session.specs.Calls.{answered, noSession, numbered, sta
 use crate::numbers::ABORTED;
 use crate::numbers::Answer;
 use crate::numbers::EXPECTING;
+use crate::numbers::FORM;
 use crate::numbers::Numbers;
 use crate::numbers::PASSIVE;
+use crate::numbers::RANGE;
+use crate::numbers::ROOM;
 
 // The receiver of a filter. Refused: a bad table, then marks shorter than 8,192; then nothing is changed.
 pub fn start_receiver(table: &[u8], marks: &mut [u8]) -> Answer
     ensures { λ r. ⌜ starting r (now (marks .exit)) [] ≡ startReceiver firstEight (now (table .entry)) (now (marks .entry)) ⌝ }
 {
     if !filter::table::is_table(table) {
-        return no_session(1);
+        return no_session(FORM);
     }
     if marks.len() < 8192 {
-        return no_session(2);
+        return no_session(ROOM);
     }
     crate::copying::clear(marks, filter::table::count(table));
     crate::numbers::answered(0, 0, fresh(EXPECTING, 0, 37, 0))
@@ -29,13 +32,13 @@ pub fn start_sender(table: &[u8], size: u32, salt: u32, marks: &mut [u8], out: &
     ensures { λ r. ⌜ starting r (now (marks .exit)) (now (out .exit)) ≡ startSender firstEight size salt (now (table .entry)) (now (marks .entry)) (now (out .entry)) ⌝ }
 {
     if !filter::table::is_table(table) {
-        return no_session(1);
+        return no_session(FORM);
     }
     if !filter::forms::in_range(size, salt) {
-        return no_session(3);
+        return no_session(RANGE);
     }
     if (marks.len() < 8192) | (out.len() < 295008) {
-        return no_session(2);
+        return no_session(ROOM);
     }
     crate::copying::clear(marks, filter::table::count(table));
     let sent = crate::sending::send_filter(table, size, salt, out);

@@ -7,7 +7,11 @@ ghost use Rattle.session.specs.Calls.{given, left, stepCall};
 ghost use Rattle.session.specs.Judged.{numbersFit, frontBy, ledgerRooms, otherRooms, InForm, ledgerTurn, ledgerTurn′};
 use crate::numbers::Answer;
 use crate::numbers::EXPECTING_LAST;
+use crate::numbers::FORM;
+use crate::numbers::MALFORMED;
 use crate::numbers::Numbers;
+use crate::numbers::OUT_OF_TURN;
+use crate::numbers::ROOM;
 use crate::tallying::Tally;
 use message::kinds::Message;
 
@@ -32,14 +36,14 @@ pub fn step(
         ≡ stepCall firstEight (given numbers (now (table .entry)) (now (records .entry)) (now (marks .entry)) (now (inquired .entry)) (columns (now (ids .entry)) (now (hashes .entry)) (now (counts .entry))) (now (ours .entry)) (now (theirs .entry)) (now (hash .entry)) (now (message .entry)) (now (out .entry))) ⌝ }
 {
     if !is_good_front(numbers, table, counts) {
-        return crate::numbers::refused(1, numbers);
+        return crate::numbers::refused(FORM, numbers);
     }
     if !has_ledger_room(records.len(), marks.len(), inquired.len()) {
-        return crate::numbers::refused(2, numbers);
+        return crate::numbers::refused(ROOM, numbers);
     }
     let tally = crate::tallying::judge_ledger(numbers, table, records, marks, inquired);
     if !tally.good {
-        return crate::numbers::refused(1, numbers);
+        return crate::numbers::refused(FORM, numbers);
     }
     if !has_other_room(
         ids.len(),
@@ -50,10 +54,10 @@ pub fn step(
         hash.len(),
         out.len(),
     ) {
-        return crate::numbers::refused(2, numbers);
+        return crate::numbers::refused(ROOM, numbers);
     }
     if 5 < numbers.state {
-        return crate::numbers::refused(5, numbers);
+        return crate::numbers::refused(OUT_OF_TURN, numbers);
     }
     match message::reading::read(message) {
         Message::Ibf {
@@ -158,7 +162,7 @@ fn on_ledger(
             let unmet = tally.unmet;
             crate::ends::on_done(numbers, table, records, marks, message, out, unmet)
         }
-        _ => crate::numbers::aborted(4, numbers),
+        _ => crate::numbers::aborted(MALFORMED, numbers),
     }
 }
 
