@@ -129,15 +129,15 @@ module _ (derive : ℕ → ℕ) (t : List ℕ) (h : ℕ) (s : Session) where
   abbrev Unmet : Ledger → Outcome → Type 0
   Unmet L o = unmet (o .session .ledger) ≡ unmet L
 
-  abbrev leftBy : Content → Ledger
-  leftBy (slice size offset salt width ids hashes counts) = s .ledger
-  leftBy (inquiry salt xs) = s .ledger
-  leftBy (offer hs) = demanding (new derive t (s .ledger) hs) (s .ledger)
-  leftBy (demand hs) = s .ledger
-  leftBy (element bytes) = gaining h (s .ledger)
-  leftBy (done check) = s .ledger
+  abbrev ledgerBehind : Content → Ledger
+  ledgerBehind (slice size offset salt width ids hashes counts) = s .ledger
+  ledgerBehind (inquiry salt xs) = s .ledger
+  ledgerBehind (offer hs) = demanding (new derive t (s .ledger) hs) (s .ledger)
+  ledgerBehind (demand hs) = s .ledger
+  ledgerBehind (element bytes) = gaining h (s .ledger)
+  ledgerBehind (done check) = s .ledger
 
-  unmet-left : (c : Content) → Unmet (leftBy c) (act derive t h s c)
+  unmet-left : (c : Content) → Unmet (ledgerBehind c) (act derive t h s c)
   unfolding act onSlice decoded swapped sliced onElement onDone unmet
   unmet-left (slice size offset salt width ids hashes counts) =
       pick (Unmet (s .ledger)) (isLast size offset) _ _

@@ -27,7 +27,7 @@ use Rattle.session.proofs.TallyLaws.{tallyGiven}
 use Rattle.session.proofs.InFormLaws.{in-form}
 use Rattle.session.proofs.LastGranted.{slice-lays, last-ready}
 use Rattle.session.proofs.SaidTie.{slice-said, last-said}
-use Rattle.session.proofs.LedgerTie.{leftBy, ledger-tie}
+use Rattle.session.proofs.LedgerTie.{ledgerLeft, ledger-tie}
 use borrow.Author.Needs.{needs}
 use Rattle.session.proofs.stepping.step.Statement.{statement}
 use Rattle.session.proofs.stepping.step.Tie as tie
@@ -326,8 +326,8 @@ returns-8 c =
     let G = given5 (c .before .before .before .before .before .before .before .before .before .before .before .before .before) in
     let m = c .before .before .before .before .before .before .before .before .before .before .before .before .read .result in
     let t = c .before .before .before .before .before .before .before .before .before .before .before .before .before .before .before .before .before .before .before .judge-ledger .result in
-    ap (leftBy G) (c .before .before .before .before .before .before .on-ledger .ensures)
-    ∙ ap (λ (t : Tally). leftBy G (ledgerTurn (G .numbers) (G .table) (G .records) (G .marks) (G .inquired) (G .hash) (G .message) (G .out) m t)) (tally-at (c .before .before .before .before .before .before .before .before .before .before .before .before .before))
+    ap (ledgerLeft G) (c .before .before .before .before .before .before .on-ledger .ensures)
+    ∙ ap (λ (t : Tally). ledgerLeft G (ledgerTurn (G .numbers) (G .table) (G .records) (G .marks) (G .inquired) (G .hash) (G .message) (G .out) m t)) (tally-at (c .before .before .before .before .before .before .before .before .before .before .before .before .before))
     ∙ ledger-tie G (sound-at (c .before .before .before .before .before .before .before .before .before .before .before .before .before)) m (sym (c .before .before .before .before .before .before .before .before .before .before .before .before .read .ensures)) (other m (c .before .before .before .before .before .before .before .before .before .before .before .match .keys3))
     ∙ ap (λ (k : Message). stepSaid firstEight k G) (c .before .before .before .before .before .before .before .before .before .before .before .before .read .ensures)
     ∙ said-at (c .before .before .before .before .before .before .before .before .before .before .before .before .before)
