@@ -17,7 +17,7 @@ use Rattle.filter.specs.Filter.{filterRule, filterOf}
 use Rattle.filter.specs.Lists.{minus}
 use Rattle.filter.specs.Stopping.{differing, Clear, Exactly}
 use Rattle.filter.specs.Table.{hashesOf, isTable}
-use Rattle.filter.proofs.Demand3.{complete-trusted, reads-exactly}
+use Rattle.filter.proofs.Demand3.{complete-trusted, complete-set, reads-exactly}
 use Rattle.message.specs.Layout.{Content, slice, inquiry, offer, demand, element, done, Good}
 use Rattle.message.specs.Laying.{laid}
 use Rattle.session.specs.Sets.{insert}
@@ -227,23 +227,34 @@ module _ (derive : ℕ → ℕ) (bytes : List ℕ) (s : Session) (c : Content) (
       → readOf derive (hashesOf bytes) s c size salt ≡ readCall derive size salt bytes (laid c (s .columns)) (s .ours) (s .theirs)
   reading-is-filters = reading-granted derive size salt bytes (laid c (s .columns)) (s .ours) (s .theirs)
 
-  -- demand 3: "in a session, the reading as it stands before refusal 9 or 10 clears its lists"
-  pub session-trusted : Granted → isComplete (readOf derive (hashesOf bytes) s c size salt) ≡ true → (i : ℕ) → i < size
-      → let r = readOf derive (hashesOf bytes) s c size salt in
-      view (laid c (s .columns)) i ≡ filterOf (filterRule size salt) (minus (idsOf derive (hashesOf bytes)) (oursIn r) ++ theirsIn r) i
+  -- demand 3: "in a session, the reading as it stands before refusal 9 or 10 clears its lists". A complete one is trusted: the received filter is that
+  -- of our IDs less those listed as ours, which are of them, plus those listed as theirs, and what it is made from is a set
+  abbrev pub Trusted : Read → Type 0
+  Trusted r =
+      let ids = idsOf derive (hashesOf bytes) in
+      ((i : ℕ) → i < size → view (laid c (s .columns)) i ≡ filterOf (filterRule size salt) (minus ids (oursIn r) ++ theirsIn r) i)
+      × ((a : ℕ) → elem a (oursIn r) ≡ true → elem a ids ≡ true)
+      × Distinct (minus ids (oursIn r) ++ theirsIn r)
+
+  pub session-trusted : Granted → isComplete (readOf derive (hashesOf bytes) s c size salt) ≡ true → Trusted (readOf derive (hashesOf bytes) s c size salt)
   unfolding idsOf Rattle.filter.specs.Table.idsOf
-  session-trusted g whole i h =
-      subst (λ (r : Read). view cols i ≡ filterOf (filterRule size salt) (minus (idsOf derive (hashesOf bytes)) (oursIn r) ++ theirsIn r) i)
-      (sym same)
-      (complete-trusted derive size salt bytes cols (s .ours) (s .theirs)
-      (subst (λ (r : Read). r .answer .refusal ≡ 0) same (complete-clean derive (hashesOf bytes) size salt cols (s .ours) (s .theirs) whole))
-      (eqb-true _ 1 (subst (λ (r : Read). isComplete r ≡ true) same whole)) i h)
+  session-trusted g whole =
+      let set = complete-set derive size salt bytes cols (s .ours) (s .theirs) full in
+      subst Trusted (sym same) (
+        complete-trusted derive size salt bytes cols (s .ours) (s .theirs)
+            (subst (λ (r : Read). r .answer .refusal ≡ 0) same (complete-clean derive (hashesOf bytes) size salt cols (s .ours) (s .theirs) whole)) full,
+        set .0,
+        set .1,
+      )
     where
       cols : Columns
       cols = laid c (s .columns)
 
       same : readOf derive (hashesOf bytes) s c size salt ≡ readCall derive size salt bytes cols (s .ours) (s .theirs)
       same = reading-is-filters g
+
+      full : readCall derive size salt bytes cols (s .ours) (s .theirs) .answer .complete ≡ 1
+      full = eqb-true _ 1 (subst (λ (r : Read). isComplete r ≡ true) same whole)
 
   pub session-exact : ((h : ℕ) → h < 2 ^ 512 → derive h < 2 ^ 64) → Granted → (far : List ℕ) → Distinct far → ((a : ℕ) → elem a far ≡ true → a < 2 ^ 64)
       → ((i : ℕ) → i < size → view (laid c (s .columns)) i ≡ filterOf (filterRule size salt) far i)
