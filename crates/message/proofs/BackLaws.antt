@@ -26,12 +26,11 @@ use Rattle.bucket.proofs.OverLaws.{part-over}
 use Rattle.bucket.proofs.WindowLaws.{part-part}
 use Rattle.message.specs.declared.kinds.Message.{Message}
 use Rattle.message.specs.declared.kinds.Message.the-variants.{Ibf, IbfLast, Inquiry, Offer, Demand, Element, Done, Malformed}
-use Rattle.message.specs.declared.walking.Cursor.{Cursor}
 use Rattle.message.specs.declared.walking.Walked.{Walked}
 use Rattle.message.specs.declared.walking.Walked.the-variants.{Found, Broken, End}
 use Rattle.message.specs.Layout.{Content, Good, layout}
 use Rattle.message.specs.Reading.{field, parse, parseBody, content, head}
-use Rattle.message.specs.Walking.{cursor, stepOf, walkAt}
+use Rattle.message.specs.Walking.{stepOf, walkAt}
 use Rattle.message.specs.Writing.{layouts}
 use Rattle.message.proofs.CompleteLaws.{complete, head-never}
 use Rattle.message.proofs.ReadLaws.{both}
@@ -47,7 +46,7 @@ sized bs real = go (leb 4 (length bs) && eqb (field 2 0 bs) (length bs)) refl
     go false h = absurd (real (ap (λ (t : Bool). cond t (parseBody (field 2 2 bs) bs) Malformed) h))
 
 -- one step, both ways
-step-found : (m : Message) (start next : ℕ) → (m ≡ Malformed → ⊥) → stepOf m start next ≡ Found m start (cursor next)
+step-found : (m : Message) (start next : ℕ) → (m ≡ Malformed → ⊥) → stepOf m start next ≡ Found m start next
 step-found (Ibf size offset salt width n) start next real = refl
 step-found (IbfLast size offset salt width n) start next real = refl
 step-found (Inquiry salt n) start next real = refl
@@ -68,32 +67,32 @@ malformed-or Done = inr (λ e. let z : _≡_ {A = ℕ} 0 1 = cc in omega arith)
 malformed-or Malformed = inl refl
 
 -- what the walk found
-pub record Stepped (x : Message) (from to : ℕ) (m : Message) (start : ℕ) (next : Cursor) : Type 0 where
+pub record Stepped (x : Message) (from to : ℕ) (m : Message) (start next : ℕ) : Type 0 where
   pub same : x ≡ m
   pub here : start ≡ from
-  pub behind : next ≡ cursor to
+  pub behind : next ≡ to
   pub real : m ≡ Malformed → ⊥
 
-found-step : (x : Message) (from to : ℕ) (m : Message) (start : ℕ) (next : Cursor) → stepOf x from to ≡ Found m start next → Stepped x from to m start next
+found-step : (x : Message) (from to : ℕ) (m : Message) (start next : ℕ) → stepOf x from to ≡ Found m start next → Stepped x from to m start next
 found-step x from to m start next e = go (malformed-or x)
   where
     go : (x ≡ Malformed) ⊎ (x ≡ Malformed → ⊥) → Stepped x from to m start next
     go (inl z) = let q : Broken from ≡ Found m start next = ap (λ (y : Message). stepOf y from to) (sym z) ∙ e in absurd (let f : _≡_ {A = ℕ} 0 1 = cc in omega arith)
-    go (inr real) = let q : Found x from (cursor to) ≡ Found m start next = sym (step-found x from to real) ∙ e in record { same = cc; here = cc; behind = cc; real = λ w. real (cc) }
+    go (inr real) = let q : Found x from to ≡ Found m start next = sym (step-found x from to real) ∙ e in record { same = cc; here = cc; behind = cc; real = λ w. real (cc) }
 
 broken-step : (x : Message) (from to start : ℕ) → stepOf x from to ≡ Broken start → (start ≡ from) × (x ≡ Malformed)
 broken-step x from to start e = go (malformed-or x)
   where
     go : (x ≡ Malformed) ⊎ (x ≡ Malformed → ⊥) → (start ≡ from) × (x ≡ Malformed)
     go (inl z) = let q : Broken from ≡ Broken start = ap (λ (y : Message). stepOf y from to) (sym z) ∙ e in (cc, z)
-    go (inr real) = let q : Found x from (cursor to) ≡ Broken start = sym (step-found x from to real) ∙ e in absurd (let f : _≡_ {A = ℕ} 0 1 = cc in omega arith)
+    go (inr real) = let q : Found x from to ≡ Broken start = sym (step-found x from to real) ∙ e in absurd (let f : _≡_ {A = ℕ} 0 1 = cc in omega arith)
 
 end-step : (x : Message) (from to : ℕ) → stepOf x from to ≡ End → ⊥
 end-step x from to e = go (malformed-or x)
   where
     go : (x ≡ Malformed) ⊎ (x ≡ Malformed → ⊥) → ⊥
     go (inl z) = let q : Broken from ≡ End = ap (λ (y : Message). stepOf y from to) (sym z) ∙ e in let f : _≡_ {A = ℕ} 0 1 = cc in omega arith
-    go (inr real) = let q : Found x from (cursor to) ≡ End = sym (step-found x from to real) ∙ e in let f : _≡_ {A = ℕ} 0 1 = cc in omega arith
+    go (inr real) = let q : Found x from to ≡ End = sym (step-found x from to real) ∙ e in let f : _≡_ {A = ℕ} 0 1 = cc in omega arith
 
 -- the walk at a position, by what it answers
 module _ (s : List ℕ) (at : ℕ) where
@@ -109,7 +108,7 @@ module _ (s : List ℕ) (at : ℕ) where
       go true h = absurd (more (sym e ∙ ap (λ (t : Bool). cond t End (stepOf (parse bytesAt) at (at + field 2 at s))) h))
       go false h = sym (ap (λ (t : Bool). cond t End (stepOf (parse bytesAt) at (at + field 2 at s))) h) ∙ e
 
-  pub walk-found : {m : Message} {start : ℕ} {next : Cursor} → walkAt s at ≡ Found m start next → Stepped (parse bytesAt) at (at + field 2 at s) m start next
+  pub walk-found : {m : Message} {start next : ℕ} → walkAt s at ≡ Found m start next → Stepped (parse bytesAt) at (at + field 2 at s) m start next
   walk-found {m} {start} {next} e =
       found-step (parse bytesAt) at (at + field 2 at s) m start next (stepped (Found m start next) e (λ q. let f : _≡_ {A = ℕ} 0 1 = cc in omega arith))
 
@@ -136,31 +135,31 @@ module _ (s : List ℕ) (at : ℕ) (bs : List ℕ) (m : Message) (there : part a
   inside : at < length s
   inside = omega (arith, long, ap length there, length-take (length bs) (drop at s), length-drop at s)
 
-  found-there : walkAt s at ≡ Found m at (cursor (at + length bs))
+  found-there : walkAt s at ≡ Found m at (at + length bs)
   found-there =
       sym (walk-on s at inside)
       ∙ ap₂ (λ (x : Message) (k : ℕ). stepOf x at (at + k)) (ap (λ (k : ℕ). parse (part at k s)) same-size ∙ ap parse there ∙ read) same-size
       ∙ step-found m at (at + length bs) real
 
 pub walk-layout : (pre rest : List ℕ) (c : Content) → Good c
-    → walkAt (pre ++ (layout c ++ rest)) (length pre) ≡ Found (head c) (length pre) (cursor (length pre + length (layout c)))
+    → walkAt (pre ++ (layout c ++ rest)) (length pre) ≡ Found (head c) (length pre) (length pre + length (layout c))
 walk-layout pre rest c good =
     found-there (pre ++ (layout c ++ rest)) (length pre) (layout c) (head c)
     (ap (take (length (layout c))) (drop-append-seam pre (layout c ++ rest)) ∙ take-append-seam (layout c) rest)
     (complete c good .read) (head-never c)
 
 pub exactly-one : (s : List ℕ) (m : Message)
-    → (walkAt s 0 ≡ Found m 0 (cursor (length s)) → (parse s ≡ m) × (m ≡ Malformed → ⊥))
-    × ((parse s ≡ m) × (m ≡ Malformed → ⊥) → walkAt s 0 ≡ Found m 0 (cursor (length s)))
+    → (walkAt s 0 ≡ Found m 0 (length s) → (parse s ≡ m) × (m ≡ Malformed → ⊥))
+    × ((parse s ≡ m) × (m ≡ Malformed → ⊥) → walkAt s 0 ≡ Found m 0 (length s))
 exactly-one s m = (
   λ e. let f = walk-found s 0 e in
-      (ap parse (sym (take-length s) ∙ ap (λ (k : ℕ). take k s) (ap (λ (c : Cursor). c .at) (f .behind) ∙ zero-add (field 2 0 s))) ∙ f .same, f .real),
-  λ h. found-there s 0 s m (take-length s) (h .0) (h .1) ∙ ap (λ (k : ℕ). Found m 0 (cursor k)) (zero-add (length s)),
+      (ap parse (sym (take-length s) ∙ ap (λ (k : ℕ). take k s) (f .behind ∙ zero-add (field 2 0 s))) ∙ f .same, f .real),
+  λ h. found-there s 0 s m (take-length s) (h .0) (h .1) ∙ ap (Found m 0) (zero-add (length s)),
 )
 
 -- messages one behind the other
 pub record Stands (s : List ℕ) (at : ℕ) (c : Content) : Type 0 where
-  pub found : walkAt s at ≡ Found (head c) at (cursor (at + length (layout c)))
+  pub found : walkAt s at ≡ Found (head c) at (at + length (layout c))
   pub said : content (head c) (part at (length (layout c)) s) ≡ c
 
 abbrev pub Walks : List ℕ → ℕ → List Content → Type 0

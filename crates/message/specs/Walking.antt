@@ -1,6 +1,5 @@
 -- A buffer walked message by message (document 01: "One buffer may hold several messages end to end").
 --
---   cursor at         a position
 --   walkAt s at       the message at a position with its place and the next position, or that none is there, or the end
 --   walkNumbers w     the same as numbers, for C
 --   exactlyOne s      "a session call must be given exactly one, or it is malformed"
@@ -18,24 +17,20 @@ use Rattle.filter.specs.declared.answers.Refusal.the-variants.{None}
 use Rattle.message.specs.declared.kinds.Message.{Message}
 use Rattle.message.specs.declared.kinds.Message.the-variants.{Ibf, IbfLast, Inquiry, Offer, Demand, Element, Done, Malformed}
 use Rattle.message.specs.declared.kinds.MessageNumbers.{MessageNumbers}
-use Rattle.message.specs.declared.walking.Cursor.{Cursor}
 use Rattle.message.specs.declared.walking.Walked.{Walked}
 use Rattle.message.specs.declared.walking.Walked.the-variants.{Found, Broken, End}
 use Rattle.message.specs.Reading.{field, parse, numbered, numbersOf}
 
-abbrev pub cursor : ℕ → Cursor
-cursor at = record { at = at }
-
 -- a message read from start up to next
 abbrev pub stepOf : Message → ℕ → ℕ → Walked
 stepOf Malformed start next = Broken start
-stepOf (Ibf size offset salt width n) start next = Found (Ibf size offset salt width n) start (cursor next)
-stepOf (IbfLast size offset salt width n) start next = Found (IbfLast size offset salt width n) start (cursor next)
-stepOf (Inquiry salt n) start next = Found (Inquiry salt n) start (cursor next)
-stepOf (Offer n) start next = Found (Offer n) start (cursor next)
-stepOf (Demand n) start next = Found (Demand n) start (cursor next)
-stepOf (Element n) start next = Found (Element n) start (cursor next)
-stepOf Done start next = Found Done start (cursor next)
+stepOf (Ibf size offset salt width n) start next = Found (Ibf size offset salt width n) start next
+stepOf (IbfLast size offset salt width n) start next = Found (IbfLast size offset salt width n) start next
+stepOf (Inquiry salt n) start next = Found (Inquiry salt n) start next
+stepOf (Offer n) start next = Found (Offer n) start next
+stepOf (Demand n) start next = Found (Demand n) start next
+stepOf (Element n) start next = Found (Element n) start next
+stepOf Done start next = Found Done start next
 
 -- the bytes that MSG SIZE counts from the position on, or as many as there are, read as one message
 unfoldable pub walkAt : List ℕ → ℕ → Walked
@@ -46,6 +41,6 @@ exactlyOne s = parse s
 
 -- the end is kind 1
 abbrev pub walkNumbers : Walked → ℕ → MessageNumbers
-walkNumbers (Found m start next) at = numbersOf m start (next .at)
+walkNumbers (Found m start next) at = numbersOf m start next
 walkNumbers (Broken start) at = numbersOf Malformed start start
 walkNumbers End at = numbered None 1 0 0 0 0 0 at at

@@ -21,17 +21,3 @@ pub fn next<'a>(r: Reader<'a>) -> Walked
 {
     crate::walking::walk_at(r.src, r.at)
 }
-
-// The same bytes at another position: that behind the message, for one.
-pub fn moved<'a>(r: Reader<'a>, at: usize) -> Reader<'a>
-    ensures { λ q. ⌜ (q .src ≡ r .entry .src) × (q .at ≡ at) ⌝ }
-{
-    Reader { src: r.src, at }
-}
-
-// The first message of a buffer, by way of a reader.
-pub fn first(s: &[u8]) -> Walked
-    ensures { λ r. ⌜ r ≡ walkAt (now (s .entry)) 0 ⌝ }
-{
-    next(new(s))
-}

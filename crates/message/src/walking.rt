@@ -1,22 +1,17 @@
 // A buffer of several messages end to end, walked message by message.
 ghost use mathlib.Core.Path.{_≡_};
-ghost use Rattle.message.specs.Walking.{cursor, walkAt, stepOf, walkNumbers};
+ghost use Rattle.message.specs.Walking.{walkAt, stepOf, walkNumbers};
 use crate::kinds::Message;
 use crate::kinds::MessageNumbers;
 use filter::answers::Refusal;
 
-// A position in a buffer.
-pub struct Cursor {
-    pub at: usize,
-}
-
 // What stands at a position.
 pub enum Walked {
-    // a message from start up to the next cursor
+    // a message from start up to next
     Found {
         message: Message,
         start: usize,
-        next: Cursor,
+        next: usize,
     },
     // no message: the walk ends here
     Broken {
@@ -24,21 +19,6 @@ pub enum Walked {
     },
     // the end of the buffer
     End,
-}
-
-impl Cursor {
-    pub fn new() -> Cursor
-        ensures { λ r. ⌜ r ≡ cursor 0 ⌝ }
-    {
-        Cursor { at: 0 }
-    }
-
-    // The message at the cursor.
-    pub fn step(self, s: &[u8]) -> Walked
-        ensures { λ r. ⌜ r ≡ walkAt (now (s .entry)) (self .at) ⌝ }
-    {
-        walk_at(s, self.at)
-    }
 }
 
 // The message at a position of a buffer.
@@ -68,7 +48,7 @@ fn step_of(message: Message, start: usize, next: usize) -> Walked
     Walked::Found {
         message,
         start,
-        next: Cursor { at: next },
+        next,
     }
 }
 
@@ -82,7 +62,7 @@ pub fn numbers_at(s: &[u8], at: usize) -> MessageNumbers
             message,
             start,
             next,
-        } => crate::kinds::message_numbers(message, start, next.at),
+        } => crate::kinds::message_numbers(message, start, next),
         Walked::Broken { start } => crate::kinds::message_numbers(Message::Malformed, start, start),
         Walked::End => crate::kinds::numbered(Refusal::None, 1, 0, 0, 0, 0, 0, at, at),
     }

@@ -7,14 +7,14 @@ use denote.Enum.Declared.{tagOf}
 use Rattle.message.specs.declared.kinds.Message.{Message}
 use Rattle.message.specs.declared.kinds.Message.the-variants.{Ibf, IbfLast, Inquiry, Offer, Demand, Element, Done, Malformed}
 use Rattle.message.specs.declared.walking.Walked.the-variants.{Found}
-use Rattle.message.specs.Walking.{cursor, stepOf}
+use Rattle.message.specs.Walking.{stepOf}
 use Rattle.message.proofs.kinds.Message.{the-type}
 use borrow.Author.Needs.{needs}
 use Rattle.message.proofs.walking.step_of.Statement.{statement}
 use Rattle.message.proofs.walking.step_of.Tie as tie
 
 -- the kinds before Malformed, by number
-found : (m : Message) (start next : ℕ) → OneOf (0 ∷ 1 ∷ 2 ∷ 3 ∷ 4 ∷ 5 ∷ 6 ∷ []) (tagOf the-type m) → Found m start (cursor next) ≡ stepOf m start next
+found : (m : Message) (start next : ℕ) → OneOf (0 ∷ 1 ∷ 2 ∷ 3 ∷ 4 ∷ 5 ∷ 6 ∷ []) (tagOf the-type m) → Found m start next ≡ stepOf m start next
 found (Ibf size offset salt width n) start next h = refl
 found (IbfLast size offset salt width n) start next h = refl
 found (Inquiry salt n) start next h = refl
