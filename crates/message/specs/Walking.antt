@@ -1,7 +1,9 @@
 -- A buffer walked message by message (document 01: "One buffer may hold several messages end to end").
 --
 --   walkAt s at       the message at a position with its place and the next position, or that none is there, or the end
---   walkNumbers w     the same as numbers, for C
+--   behind w at       the position behind what stands there
+--   readerAt, nextOf  a reader at a position, and its answer: what stands there, with the reader behind it
+--   walkNumbers w     what stands at a position as numbers, for C
 --   exactlyOne s      "a session call must be given exactly one, or it is malformed"
 --
 -- A message that is malformed hands out no further position, so nobody walks past it. Each slice is taken alone: its order is the session's.
@@ -12,11 +14,14 @@ use mathlib.Core.List.{List}
 use Prim.Native.Nat.{ℕ, _+_}
 use lib.Dec.{leb}
 use lib.ListN.{length}
+use denote.Ref.{RefT, now}
 use Rattle.bucket.specs.Lists.{part}
 use Rattle.filter.specs.declared.answers.Refusal.the-variants.{None}
 use Rattle.message.specs.declared.kinds.Message.{Message}
 use Rattle.message.specs.declared.kinds.Message.the-variants.{Ibf, IbfLast, Inquiry, Offer, Demand, Element, Done, Malformed}
 use Rattle.message.specs.declared.kinds.MessageNumbers.{MessageNumbers}
+use Rattle.message.specs.declared.reader.Reader.{Reader}
+use Rattle.message.specs.declared.reader.Taken.{Taken}
 use Rattle.message.specs.declared.walking.Walked.{Walked}
 use Rattle.message.specs.declared.walking.Walked.the-variants.{Found, Broken, End}
 use Rattle.message.specs.Reading.{field, parse, numbered, numbersOf}
@@ -38,6 +43,21 @@ walkAt s at = cond (leb (length s) at) End (stepOf (parse (part at (field 2 at s
 
 abbrev pub exactlyOne : List ℕ → Message
 exactlyOne s = parse s
+
+-- the end of a message that stands at a position, or the position itself
+abbrev pub behind : Walked → ℕ → ℕ
+behind (Found m start next) at = next
+behind (Broken start) at = at
+behind End at = at
+
+-- "a small reader struct over the lent bytes with its position"
+abbrev pub readerAt : RefT (List ℕ) → ℕ → Reader
+readerAt src at = record { src = src; at = at }
+
+abbrev pub nextOf : Reader → Taken
+nextOf r =
+    let w = walkAt (now (r .src)) (r .at) in
+    record { walked = w; rest = readerAt (r .src) (behind w (r .at)) }
 
 -- the end is kind 1
 abbrev pub walkNumbers : Walked → ℕ → MessageNumbers

@@ -1,6 +1,7 @@
-// A small reader over lent bytes with its position (document 01, forms by place), thin over the cursor form.
+// A small reader over lent bytes with its position (document 01, "Choosing the form by place": "One buffer may hold several messages end to end").
+// `next` answers what stands there with the reader behind it. `message_at` takes a plain slice, so that its callers need no proof by hand.
 ghost use mathlib.Core.Path.{_≡_};
-ghost use Rattle.message.specs.Walking.{walkAt};
+ghost use Rattle.message.specs.Walking.{walkAt, behind, readerAt, nextOf};
 use crate::walking::Walked;
 
 // The lent bytes with a position in them.
@@ -9,15 +10,47 @@ pub struct Reader<'a> {
     pub at: usize,
 }
 
-pub fn new<'a>(src: &'a [u8]) -> Reader<'a>
-    ensures { λ r. ⌜ (r .src ≡ src .entry) × (r .at ≡ 0) ⌝ }
-{
-    Reader { src, at: 0 }
+// What stands at a reader's position, and the reader behind it.
+pub struct Taken<'a> {
+    pub walked: Walked,
+    pub rest: Reader<'a>,
 }
 
-// The message at the reader's position.
-pub fn next<'a>(r: Reader<'a>) -> Walked
-    ensures { λ s. ⌜ s ≡ walkAt (now (r .entry .src)) (r .entry .at) ⌝ }
+pub fn new<'a>(src: &'a [u8], at: usize) -> Reader<'a>
+    ensures { λ r. ⌜ r ≡ readerAt (src .entry) at ⌝ }
 {
-    crate::walking::walk_at(r.src, r.at)
+    Reader { src, at }
+}
+
+// The message at the reader's position. The reader stays there where none is.
+pub fn next<'a>(r: Reader<'a>) -> Taken<'a>
+    ensures { λ t. ⌜ t ≡ nextOf (r .entry) ⌝ }
+{
+    let walked = crate::walking::walk_at(r.src, r.at);
+    let at = behind(walked, r.at);
+    Taken {
+        walked,
+        rest: Reader { src: r.src, at },
+    }
+}
+
+fn behind(walked: Walked, at: usize) -> usize
+    ensures { λ r. ⌜ r ≡ behind walked at ⌝ }
+{
+    match walked {
+        Walked::Found {
+            message: _,
+            start: _,
+            next,
+        } => next,
+        Walked::Broken { start: _ } => at,
+        Walked::End => at,
+    }
+}
+
+// The message at a position of a buffer, by way of a reader there.
+pub fn message_at(s: &[u8], at: usize) -> Walked
+    ensures { λ r. ⌜ r ≡ walkAt (now (s .entry)) at ⌝ }
+{
+    next(new(s, at)).walked
 }

@@ -56,7 +56,7 @@ fn step_of(message: Message, start: usize, next: usize) -> Walked
 pub fn numbers_at(s: &[u8], at: usize) -> MessageNumbers
     ensures { λ r. ⌜ r ≡ walkNumbers (walkAt (now (s .entry)) at) at ⌝ }
 {
-    let w = walk_at(s, at);
+    let w = crate::reader::message_at(s, at);
     match w {
         Walked::Found {
             message,

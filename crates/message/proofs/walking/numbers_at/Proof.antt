@@ -3,8 +3,8 @@ use borrow.Author.Needs.{needs}
 use Rattle.message.proofs.walking.numbers_at.Statement.{statement}
 use Rattle.message.proofs.walking.numbers_at.Tie as tie
 
-walk-at-requires : tie.Need-walk-at-requires
-walk-at-requires c κs = search needs
+message-at-requires : tie.Need-message-at-requires
+message-at-requires c κs = search needs
 
 enum-known-w : tie.Need-enum-known-w
 enum-known-w c = search needs
@@ -25,19 +25,19 @@ numbered-requires : tie.Need-numbered-requires
 numbered-requires c κs = search needs
 
 returns : tie.Need-returns
-returns c = rw (← c .before .before .before .before .walk-at .ensures, c .before .before .w .given .1) (c .message-numbers .ensures)
+returns c = rw (← c .before .before .before .before .message-at .ensures, c .before .before .w .given .1) (c .message-numbers .ensures)
 
 returns-2 : tie.Need-returns-2
-returns-2 c = rw (← c .before .before .before .before .walk-at .ensures, c .before .before .w2 .given .1) (c .message-numbers2 .ensures)
+returns-2 c = rw (← c .before .before .before .before .message-at .ensures, c .before .before .w2 .given .1) (c .message-numbers2 .ensures)
 
 returns-3 : tie.Need-returns-3
-returns-3 c = rw (← c .before .before .before .walk-at .ensures, c .before .enum-told .given .1) (c .numbered .ensures)
+returns-3 c = rw (← c .before .before .before .message-at .ensures, c .before .enum-told .given .1) (c .numbered .ensures)
 
 pub numbers-at-spec : {M : Type 1} → statement M
 numbers-at-spec =
     tie.close
     (tie.spec
-    walk-at-requires
+    message-at-requires
     enum-known-w
     message-numbers-requires
     enum-known-w-2
