@@ -37,7 +37,7 @@ use Rattle.message.proofs.ReadLaws.{both}
 use Rattle.message.proofs.WalkLaws.{walk-end, walk-on}
 
 -- what is read has the number of bytes that its MSG SIZE says
-sized : (bs : List ℕ) → (parse bs ≡ Malformed → ⊥) → (4 ≤ length bs) × (field 2 0 bs ≡ length bs)
+pub sized : (bs : List ℕ) → (parse bs ≡ Malformed → ⊥) → (4 ≤ length bs) × (field 2 0 bs ≡ length bs)
 unfolding parse
 sized bs real = go (leb 4 (length bs) && eqb (field 2 0 bs) (length bs)) refl
   where
@@ -170,7 +170,7 @@ abbrev pub All-good : List Content → Type 0
 All-good [] = Unit {0}
 All-good (c ∷ cs) = Good c × All-good cs
 
-walks-there : (s : List ℕ) (at : ℕ) (cs : List Content) → All-good cs → part at (length (layouts cs)) s ≡ layouts cs → Walks s at cs
+pub walks-there : (s : List ℕ) (at : ℕ) (cs : List Content) → All-good cs → part at (length (layouts cs)) s ≡ layouts cs → Walks s at cs
 unfolding layouts
 walks-there s at [] good e = tt
 walks-there s at (c ∷ cs) good e = (

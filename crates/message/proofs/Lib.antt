@@ -11,6 +11,7 @@ pub mod ReachLaws
 pub mod ItemLaws
 pub mod WalkLaws
 pub mod BackLaws
+pub mod ThroughLaws
 pub mod ReaderLaws
 pub mod PieceLaws
 pub mod PutLaws

@@ -1,7 +1,7 @@
 // A small reader over lent bytes with its position (document 01, "Choosing the form by place": "One buffer may hold several messages end to end").
-// `next` answers what stands there with the reader behind it. `message_at` takes a plain slice, so that its callers need no proof by hand.
+// `next` answers what stands there with the reader behind it. `message_at` and `walk` take a plain slice, so that their callers need no proof by hand.
 ghost use mathlib.Core.Path.{_≡_};
-ghost use Rattle.message.specs.Walking.{walkAt, behind, readerAt, nextOf};
+ghost use Rattle.message.specs.Walking.{walkAt, behind, isFound, ended, wholeOf, readerAt, nextOf};
 use crate::walking::Walked;
 
 // The lent bytes with a position in them.
@@ -14,6 +14,14 @@ pub struct Reader<'a> {
 pub struct Taken<'a> {
     pub walked: Walked,
     pub rest: Reader<'a>,
+}
+
+// How many messages stand end to end from the start of a buffer, and what is behind them.
+pub enum Whole {
+    // the end of the buffer
+    Ends { count: usize },
+    // no message, at start
+    Stops { count: usize, start: usize },
 }
 
 pub fn new<'a>(src: &'a [u8], at: usize) -> Reader<'a>
@@ -53,4 +61,45 @@ pub fn message_at(s: &[u8], at: usize) -> Walked
     ensures { λ r. ⌜ r ≡ walkAt (now (s .entry)) at ⌝ }
 {
     next(new(s, at)).walked
+}
+
+// A whole buffer, message by message.
+pub fn walk(s: &[u8]) -> Whole
+    ensures { λ r. ⌜ r ≡ wholeOf (now (s .entry)) ⌝ }
+{
+    let mut taken = next(new(s, 0));
+    let mut count = 0;
+    while is_found(taken.walked) {
+        count = count + 1;
+        taken = next(taken.rest);
+    }
+    ended(taken.walked, count)
+}
+
+fn is_found(walked: Walked) -> bool
+    ensures { λ r. ⌜ r ≡ isFound walked ⌝ }
+{
+    match walked {
+        Walked::Found {
+            message: _,
+            start: _,
+            next: _,
+        } => true,
+        Walked::Broken { start: _ } => false,
+        Walked::End => false,
+    }
+}
+
+fn ended(walked: Walked, count: usize) -> Whole
+    ensures { λ r. ⌜ r ≡ ended walked count ⌝ }
+{
+    match walked {
+        Walked::Found {
+            message: _,
+            start,
+            next: _,
+        } => Whole::Stops { count, start },
+        Walked::Broken { start } => Whole::Stops { count, start },
+        Walked::End => Whole::Ends { count },
+    }
 }
