@@ -18,9 +18,9 @@ use Rattle.bucket.proofs.ListLaws.{pad-length}
 use Rattle.filter.specs.declared.answers.Verdict.{Verdict}
 use Rattle.filter.specs.declared.answers.Verdict.the-variants.{Complete, Stuck, False}
 use Rattle.filter.specs.Answers.{answer}
-use Rattle.filter.specs.Filter.{Item, Rule, rule, oursOf, theirsOf}
+use Rattle.filter.specs.Filter.{Item, Rule, rule, filterRule, oursOf, theirsOf}
 use Rattle.filter.specs.Peeling.{Outcome, allZero, agrees, reading, verdictBy, verdict}
-use Rattle.filter.specs.Calls.{inRange, areCounts, hasRoom, filled, listedInto, answered, readAs, readWith, readRefusal, outcomeOf, readCall}
+use Rattle.filter.specs.Calls.{inRange, areCounts, hasRoom, filled, listedInto, answered, readAs, readWith, readRefusal, outcomeOf, verdictOf, readCall}
 use Rattle.filter.specs.Table.{firstEight, idsOf, isTable}
 use Rattle.filter.specs.Steps.{Wide, every, Ready, Listed, Peels}
 use Rattle.filter.proofs.FilledLaws.{view-filled-in, filled-filled, filled-cong, wide-filled, wide-of}
@@ -127,129 +127,132 @@ peels-call size salt K D c₀ w k {c₁} {o₁} {t₁} {o₀} {t₀} e f g h {fi
 
 -- ---- what a call leaves
 
-module _ (size : ℕ) {q : Outcome} {c₀ : Columns} (o₀ t₀ : List ℕ) {fine : Bool} {c : Columns} {o t : List ℕ} {a b : ℕ} (w : Wide size c₀)
-    (ko : size ≤ length o₀) (kt : size ≤ length t₀) (p : Peels size q c₀ (listedInto size [] o₀) (listedInto size [] t₀) fine c o t a b) where
-  ours-room : length (reverse (oursOf (p .some))) ≤ size
-  ours-room = let e = length-reverse (oursOf (p .some)) in let f = ours-few (p .some) in let g = p .few in omega arith
+-- one of the two lists: cleared, and xs listed in it, the last first
+record Lists (size : ℕ) (l₀ xs l : List ℕ) (n : ℕ) : Type 0 where
+  room : size ≤ length l₀
+  few : length xs ≤ size
+  list : l ≡ over 0 (reverse xs) (listedInto size [] l₀)
+  count : n ≡ length xs
 
-  theirs-room : length (reverse (theirsOf (p .some))) ≤ size
-  theirs-room = let e = length-reverse (theirsOf (p .some)) in let f = theirs-few (p .some) in let g = p .few in omega arith
+module _ {size : ℕ} {l₀ xs l : List ℕ} {n : ℕ} (h : Lists size l₀ xs l n) where
+  fit : length (reverse xs) ≤ size
+  fit = omega (arith, length-reverse xs)
 
-  pub ours-length : length o ≡ length o₀
-  ours-length =
-      ap length (p .listed-some .ours)
-      ∙ over-length 0 (listedInto size [] o₀) (reverse (oursOf (p .some))) (let e = listed-length size [] o₀ (omega arith) ko in let f = ours-room in omega arith)
-      ∙ listed-length size [] o₀ (omega arith) ko
+  list-length : length l ≡ length l₀
+  list-length =
+      let e = listed-length size [] l₀ (omega arith) (h .room) in
+      ap length (h .list) ∙ over-length 0 (listedInto size [] l₀) (reverse xs) (omega (arith, fit)) ∙ e
 
-  pub theirs-length : length t ≡ length t₀
-  theirs-length =
-      ap length (p .listed-some .theirs)
-      ∙ over-length 0 (listedInto size [] t₀) (reverse (theirsOf (p .some))) (let e = listed-length size [] t₀ (omega arith) kt in let f = theirs-room in omega arith)
-      ∙ listed-length size [] t₀ (omega arith) kt
+  list-within : n ≤ length l
+  list-within = omega (arith, list-length)
 
-  pub ours-within : a ≤ length o
-  ours-within = let e = p .listed-some .ours-count in let f = length-reverse (oursOf (p .some)) in let g = ours-room in let h = ours-length in omega arith
+  list-cleared : listedInto size [] l ≡ listedInto size [] l₀
+  list-cleared = ap (listedInto size []) (h .list) ∙ listed-cleared size (reverse xs) l₀ fit (h .room)
 
-  pub theirs-within : b ≤ length t
-  theirs-within = let e = p .listed-some .theirs-count in let f = length-reverse (theirsOf (p .some)) in let g = theirs-room in let h = theirs-length in omega arith
+  list-listed : l ≡ listedInto size (reverse xs) l₀
+  list-listed = h .list ∙ listed-over size (reverse xs) l₀ fit (h .room)
 
-  pub columns-wide : Wide size c
-  columns-wide = rw (p .kept) (wide-filled size size (p .rest) c₀ w)
+  list-taken : take n l ≡ reverse xs
+  list-taken = ap₂ {C = List ℕ} take (h .count ∙ sym (length-reverse xs)) (h .list) ∙ listed-taken size (reverse xs) l₀ fit (h .room)
 
-  -- a false reading's zeros
-  pub cleared-columns : filled size (λ i. 𝟎) c ≡ filled size (λ i. 𝟎) c₀
-  cleared-columns = ap (filled size (λ i. 𝟎)) (p .kept) ∙ filled-filled size (p .rest) (λ i. 𝟎) c₀ w
+module _ {size salt : ℕ} {tb : List ℕ} {c₀ : Columns} {o₀ t₀ : List ℕ} (r : Ready size salt tb c₀ o₀ t₀) {q : Outcome}
+    {fine : Bool} {c : Columns} {o t : List ℕ} {a b : ℕ} (p : Peels size q c₀ (listedInto size [] o₀) (listedInto size [] t₀) fine c o t a b) where
+  ours-some : Lists size o₀ (oursOf (p .some)) o a
+  ours-some = record {
+    room = r .ours-room;
+    few = omega (arith, ours-few (p .some), p .few);
+    list = p .listed-some .ours;
+    count = p .listed-some .ours-count;
+  }
 
-  pub cleared-ours : listedInto size [] o ≡ listedInto size [] o₀
-  cleared-ours = ap (listedInto size []) (p .listed-some .ours) ∙ listed-cleared size (reverse (oursOf (p .some))) o₀ ours-room ko
+  theirs-some : Lists size t₀ (theirsOf (p .some)) t b
+  theirs-some = record {
+    room = r .theirs-room;
+    few = omega (arith, theirs-few (p .some), p .few);
+    list = p .listed-some .theirs;
+    count = p .listed-some .theirs-count;
+  }
 
-  pub cleared-theirs : listedInto size [] t ≡ listedInto size [] t₀
-  cleared-theirs = ap (listedInto size []) (p .listed-some .theirs) ∙ listed-cleared size (reverse (theirsOf (p .some))) t₀ theirs-room kt
+  columns-wide : Wide size c
+  columns-wide = rw (p .kept) (wide-filled size size (p .rest) c₀ (r .received .wide))
+
+  -- what judging and clearing ask
+  pub judge-ready : (isTable firstEight tb ≡ true) × Wide size c × (a ≤ length o) × (b ≤ length t)
+  judge-ready = (r .received .table, columns-wide, list-within ours-some, list-within theirs-some)
+
+  pub clear-again : Wide size c × (size ≤ length o) × (size ≤ length t)
+  clear-again = (columns-wide, omega (arith, list-length ours-some, r .ours-room), omega (arith, list-length theirs-some, r .theirs-room))
 
   -- a peeling in order
   module _ (e : fine ≡ true) where
-    ours-fit : length (reverse (oursOf (q .listed))) ≤ size
-    ours-fit =
-        let f = length-reverse (oursOf (q .listed)) in let g = length-reverse (oursOf (p .some)) in let h = ours-room in
-        let x = p .listed-some .ours-count in let y = p .listed-is e .ours-count in omega arith
+    ours-all : Lists size o₀ (oursOf (q .listed)) o a
+    ours-all = record {
+      room = r .ours-room;
+      few = omega (arith, ours-some .few, ours-some .count, p .listed-is e .ours-count);
+      list = p .listed-is e .ours;
+      count = p .listed-is e .ours-count;
+    }
 
-    theirs-fit : length (reverse (theirsOf (q .listed))) ≤ size
-    theirs-fit =
-        let f = length-reverse (theirsOf (q .listed)) in let g = length-reverse (theirsOf (p .some)) in let h = theirs-room in
-        let x = p .listed-some .theirs-count in let y = p .listed-is e .theirs-count in omega arith
+    theirs-all : Lists size t₀ (theirsOf (q .listed)) t b
+    theirs-all = record {
+      room = r .theirs-room;
+      few = omega (arith, theirs-some .few, theirs-some .count, p .listed-is e .theirs-count);
+      list = p .listed-is e .theirs;
+      count = p .listed-is e .theirs-count;
+    }
 
-    pub ours-listed : o ≡ listedInto size (reverse (oursOf (q .listed))) o₀
-    ours-listed = p .listed-is e .ours ∙ listed-over size (reverse (oursOf (q .listed))) o₀ ours-fit ko
-
-    pub theirs-listed : t ≡ listedInto size (reverse (theirsOf (q .listed))) t₀
-    theirs-listed = p .listed-is e .theirs ∙ listed-over size (reverse (theirsOf (q .listed))) t₀ theirs-fit kt
-
-    ours-taken : take a o ≡ reverse (oursOf (q .listed))
-    ours-taken =
-        ap₂ {C = List ℕ} take (p .listed-is e .ours-count ∙ sym (length-reverse (oursOf (q .listed)))) (p .listed-is e .ours)
-        ∙ listed-taken size (reverse (oursOf (q .listed))) o₀ ours-fit ko
-
-    theirs-taken : take b t ≡ reverse (theirsOf (q .listed))
-    theirs-taken =
-        ap₂ {C = List ℕ} take (p .listed-is e .theirs-count ∙ sym (length-reverse (theirsOf (q .listed)))) (p .listed-is e .theirs)
-        ∙ listed-taken size (reverse (theirsOf (q .listed))) t₀ theirs-fit kt
-
-    pub zeros-are : allZero (view c) size ≡ allZero (q .rest) size
+    zeros-are : allZero (view c) size ≡ allZero (q .rest) size
     zeros-are =
         ap (λ (d : Columns). allZero (view d) size) (p .rest-is e)
-        ∙ all-zero-cong (view (filled size (q .rest) c₀)) (q .rest) size (λ i h. view-filled-in size (q .rest) c₀ i w h)
+        ∙ all-zero-cong (view (filled size (q .rest) c₀)) (q .rest) size (λ i h. view-filled-in size (q .rest) c₀ i (r .received .wide) h)
 
-    pub agrees-are : (ids : List ℕ) → every true ids (take a o) && every false ids (take b t) ≡ agrees ids (q .listed)
+    agrees-are : (ids : List ℕ) → every true ids (take a o) && every false ids (take b t) ≡ agrees ids (q .listed)
     agrees-are ids =
-        ap₂ (λ (x y : List ℕ). every true ids x && every false ids y) ours-taken theirs-taken
+        ap₂ (λ (x y : List ℕ). every true ids x && every false ids y) (list-taken ours-all) (list-taken theirs-all)
         ∙ ap₂ _&&_ (every-reverse true ids (oursOf (q .listed))) (every-reverse false ids (theirsOf (q .listed)))
         ∙ agrees-sides ids (q .listed)
 
-  -- the code's verdict is the definition's
-  pub verdict-is : (ids : List ℕ) → verdictBy fine (allZero (view c) size) (every true ids (take a o) && every false ids (take b t))
-      ≡ verdictBy (q .fine) (allZero (q .rest) size) (agrees ids (q .listed))
-  verdict-is ids = go fine refl
-    where
-      go : (f : Bool) → fine ≡ f → verdictBy f (allZero (view c) size) (every true ids (take a o) && every false ids (take b t))
-          ≡ verdictBy (q .fine) (allZero (q .rest) size) (agrees ids (q .listed))
-      go true e = ap₂ (verdictBy true) (zeros-are e) (agrees-are e ids) ∙ ap (λ (f : Bool). verdictBy f (allZero (q .rest) size) (agrees ids (q .listed))) (sym e ∙ p .fine-is)
-      go false e = ap (λ (f : Bool). verdictBy f (allZero (q .rest) size) (agrees ids (q .listed))) (sym e ∙ p .fine-is)
+    read-listed : (whole : ℕ) → answered (answer 0 whole a b) c o t ≡ readAs whole size q c₀ o₀ t₀
+    read-listed whole = λ k. answered (answer 0 whole (ours-all .count k) (theirs-all .count k)) (p .rest-is e k)
+        (list-listed ours-all k) (list-listed theirs-all k)
 
-  -- the answer of a reading that is not false, and what it leaves
-  module _ (whole : ℕ) (e : fine ≡ true) where
-    read-listed : answered (answer 0 whole a b) c o t ≡ readAs whole size q c₀ o₀ t₀
-    read-listed = λ k. answered (answer 0 whole (p .listed-is e .ours-count k) (p .listed-is e .theirs-count k))
-        (p .rest-is e k) (ours-listed e k) (theirs-listed e k)
-
-  module _ (ids : List ℕ) {v : Verdict}
-      (e : v ≡ verdictBy fine (allZero (view c) size) (every true ids (take a o) && every false ids (take b t))) where
-    judged : (u : Verdict) → v ≡ u → u ≡ verdictBy (q .fine) (allZero (q .rest) size) (agrees ids (q .listed))
-    judged u h = sym h ∙ e ∙ verdict-is ids
+  -- by the verdict that the code comes to
+  module _ {v : Verdict} (e : v ≡ verdictBy fine (allZero (view c) size)
+      (every true (idsOf firstEight tb) (take a o) && every false (idsOf firstEight tb) (take b t))) where
+    -- it is the definition's
+    verdict-is : v ≡ verdict (filterRule size salt) (idsOf firstEight tb) q
+    unfolding verdict
+    verdict-is = e ∙ go fine refl ∙ ap (λ (f : Bool). verdictBy f (allZero (q .rest) size) (agrees (idsOf firstEight tb) (q .listed))) (p .fine-is)
+      where
+        go : (f : Bool) → fine ≡ f → verdictBy f (allZero (view c) size)
+            (every true (idsOf firstEight tb) (take a o) && every false (idsOf firstEight tb) (take b t))
+            ≡ verdictBy f (allZero (q .rest) size) (agrees (idsOf firstEight tb) (q .listed))
+        go true h = ap₂ (verdictBy true) (zeros-are h) (agrees-are h (idsOf firstEight tb))
+        go false h = refl
 
     in-order : (u : Verdict) → v ≡ u → (u ≡ False → false ≡ true) → fine ≡ true
     in-order u h ne = go fine refl
       where
         go : (f : Bool) → fine ≡ f → f ≡ true
         go true k = refl
-        go false k = ne (sym h ∙ e ∙ ap (λ (f : Bool). verdictBy f (allZero (view c) size) (every true ids (take a o) && every false ids (take b t))) k)
+        go false k = ne (sym h ∙ e ∙ ap (λ (f : Bool). verdictBy f (allZero (view c) size)
+            (every true (idsOf firstEight tb) (take a o) && every false (idsOf firstEight tb) (take b t))) k)
 
-    pub read-complete : v ≡ Complete → answered (answer 0 1 a b) c o t
-        ≡ readWith (verdictBy (q .fine) (allZero (q .rest) size) (agrees ids (q .listed))) size q c₀ o₀ t₀
+    pub read-complete : v ≡ Complete → answered (answer 0 1 a b) c o t ≡ readWith (verdict (filterRule size salt) (idsOf firstEight tb) q) size q c₀ o₀ t₀
     unfolding readWith
-    read-complete h = read-listed 1 (in-order Complete h (λ x. cc)) ∙ ap (λ (u : Verdict). readWith u size q c₀ o₀ t₀) (judged Complete h)
+    read-complete h = read-listed (in-order Complete h (λ x. cc)) 1 ∙ ap (λ (u : Verdict). readWith u size q c₀ o₀ t₀) (sym h ∙ verdict-is)
 
-    pub read-stuck : v ≡ Stuck → answered (answer 0 0 a b) c o t
-        ≡ readWith (verdictBy (q .fine) (allZero (q .rest) size) (agrees ids (q .listed))) size q c₀ o₀ t₀
+    pub read-stuck : v ≡ Stuck → answered (answer 0 0 a b) c o t ≡ readWith (verdict (filterRule size salt) (idsOf firstEight tb) q) size q c₀ o₀ t₀
     unfolding readWith
-    read-stuck h = read-listed 0 (in-order Stuck h (λ x. cc)) ∙ ap (λ (u : Verdict). readWith u size q c₀ o₀ t₀) (judged Stuck h)
+    read-stuck h = read-listed (in-order Stuck h (λ x. cc)) 0 ∙ ap (λ (u : Verdict). readWith u size q c₀ o₀ t₀) (sym h ∙ verdict-is)
 
     pub read-false : v ≡ False → {c′ : Columns} {o′ t′ : List ℕ} → c′ ≡ filled size (λ i. 𝟎) c → o′ ≡ listedInto size [] o → t′ ≡ listedInto size [] t
-        → answered (answer 6 0 0 0) c′ o′ t′
-        ≡ readWith (verdictBy (q .fine) (allZero (q .rest) size) (agrees ids (q .listed))) size q c₀ o₀ t₀
+        → answered (answer 6 0 0 0) c′ o′ t′ ≡ readWith (verdict (filterRule size salt) (idsOf firstEight tb) q) size q c₀ o₀ t₀
     unfolding readWith
     read-false h x y z =
-        (λ k. answered (answer 6 0 0 0) ((x ∙ cleared-columns) k) ((y ∙ cleared-ours) k) ((z ∙ cleared-theirs) k))
-        ∙ ap (λ (u : Verdict). readWith u size q c₀ o₀ t₀) (judged False h)
+        let u = x ∙ ap (filled size (λ i. 𝟎)) (p .kept) ∙ filled-filled size (p .rest) (λ i. 𝟎) c₀ (r .received .wide) in
+        (λ k. answered (answer 6 0 0 0) (u k) ((y ∙ list-cleared ours-some) k) ((z ∙ list-cleared theirs-some) k))
+        ∙ ap (λ (w : Verdict). readWith w size q c₀ o₀ t₀) (sym h ∙ verdict-is)
 
 -- ---- the call as a whole
 
@@ -261,22 +264,19 @@ clear-ready size c o th h =
     let l = and-eq-true-iff (leb size (length o)) (leb size (length th)) .0 (r .1) in
     (wide-of size c (r .0), leb-true _ _ (l .0), leb-true _ _ (l .1))
 
-module _ (derive : ℕ → ℕ) (size salt : ℕ) (t : List ℕ) (c : Columns) (o th : List ℕ) where
-  pub read-ends : isTable derive t && areCounts size (c .counts) ≡ true → inRange size salt ≡ true
-      → hasRoom size c && (leb size (length o) && leb size (length th)) ≡ true
-      → readWith (verdictBy (outcomeOf derive size salt t c .fine) (allZero (outcomeOf derive size salt t c .rest) size)
-      (agrees (idsOf derive t) (outcomeOf derive size salt t c .listed))) size (outcomeOf derive size salt t c) c o th
-      ≡ readCall derive size salt t c o th
-  unfolding readCall readRefusal verdict
-  read-ends x y z = rw (x, y, z)
+-- what the three tests of a reading say
+pub record Granted (size salt : ℕ) (t : List ℕ) (c : Columns) (o th : List ℕ) : Type 0 where
+  pub formed : isTable firstEight t && areCounts size (c .counts) ≡ true
+  pub ranged : inRange size salt ≡ true
+  pub roomy : hasRoom size c && (leb size (length o) && leb size (length th)) ≡ true
 
-  pub read-ready : isTable firstEight t && areCounts size (c .counts) ≡ true → inRange size salt ≡ true
-      → hasRoom size c && (leb size (length o) && leb size (length th)) ≡ true → Ready size salt t c o th
-  read-ready x y z =
-      let f = and-eq-true-iff (isTable firstEight t) (areCounts size (c .counts)) .0 x in
-      let r = clear-ready size c o th z in
-      record {
-        received = record { table = f .0; range = y; counts = f .1; wide = r .0 };
-        ours-room = r .1;
-        theirs-room = r .2;
-      }
+module _ {size salt : ℕ} {t : List ℕ} {c : Columns} {o th : List ℕ} (g : Granted size salt t c o th) where
+  pub read-ends : readWith (verdictOf firstEight size salt t c) size (outcomeOf firstEight size salt t c) c o th ≡ readCall firstEight size salt t c o th
+  unfolding readCall readRefusal
+  read-ends = rw (g .formed, g .ranged, g .roomy)
+
+  pub read-ready : Ready size salt t c o th
+  read-ready =
+      let f = and-eq-true-iff (isTable firstEight t) (areCounts size (c .counts)) .0 (g .formed) in
+      let r = clear-ready size c o th (g .roomy) in
+      record { received = record { table = f .0; range = g .ranged; counts = f .1; wide = r .0 }; ours-room = r .1; theirs-room = r .2 }

@@ -16,10 +16,12 @@ pub fn build(table: &[u8], ids: &mut [u64], hashes: &mut [u32], counts: &mut [i6
     ensures { λ r. ⌜ built (refusalNumber r) (columns (now (ids .exit)) (now (hashes .exit)) (now (counts .exit)))
         ≡ estimatorCall firstEight 0 (now (table .entry)) (columns (now (ids .entry)) (now (hashes .entry)) (now (counts .entry))) ⌝ }
 {
-    if !crate::table::is_table(table) {
+    let formed = crate::table::is_table(table);
+    let roomy = crate::forms::has_room(ids, hashes, counts, 2528);
+    if !formed {
         return Refusal::Form;
     }
-    if !crate::forms::has_room(ids, hashes, counts, 2528) {
+    if !roomy {
         return Refusal::Room;
     }
     fill(table, ids, hashes, counts);
@@ -51,10 +53,12 @@ pub fn estimate(
         ≡ estimateCall 0 (columns (now (ids .entry)) (now (hashes .entry)) (now (counts .entry)))
         (columns (now (ids2 .entry)) (now (hashes2 .entry)) (now (counts2 .entry))) ⌝ }
 {
-    if !are_counts(counts, counts2) {
+    let counted = are_counts(counts, counts2);
+    let roomy = have_room(ids, hashes, counts, ids2, hashes2, counts2);
+    if !counted {
         return Estimation::NotCounts;
     }
-    if !have_room(ids, hashes, counts, ids2, hashes2, counts2) {
+    if !roomy {
         return Estimation::TooShort;
     }
     crate::strata::subtract(ids, hashes, counts, ids2, hashes2, counts2, 2528);

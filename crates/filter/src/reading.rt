@@ -11,7 +11,7 @@ ghost use Rattle.bucket.specs.Crc.{crcTables};
 ghost use Rattle.filter.specs.Answers.{refusalNumber, answerOf};
 ghost use Rattle.filter.specs.Table.{firstEight, idsOf, isTable};
 ghost use Rattle.filter.specs.Filter.{filterRule, difference};
-ghost use Rattle.filter.specs.Calls.{areCounts, hasRoom, filled, listedInto, answered, unread, outcomeOf, readCall, clearCall};
+ghost use Rattle.filter.specs.Calls.{areCounts, hasRoom, filled, listedInto, answered, unread, readWith, outcomeOf, verdictOf, readCall, clearCall};
 ghost use Rattle.filter.specs.Steps.{Ready, Received, Wide, Peels};
 use crate::answers::Reading;
 use crate::answers::Refusal;
@@ -34,27 +34,19 @@ pub fn read(
     ensures { λ r. ⌜ answered (answerOf r) (columns (now (ids .exit)) (now (hashes .exit)) (now (counts .exit))) (now (ours .exit)) (now (theirs .exit))
         ≡ readCall firstEight size salt (now (table .entry)) (columns (now (ids .entry)) (now (hashes .entry)) (now (counts .entry))) (now (ours .entry)) (now (theirs .entry)) ⌝ }
 {
-    if !is_well_formed(table, counts, size) {
+    let formed = is_well_formed(table, counts, size);
+    let ranged = crate::forms::in_range(size, salt);
+    let roomy = has_all_room(ids, hashes, counts, ours, theirs, size);
+    if !formed {
         return Reading::BadForm;
     }
-    if !crate::forms::in_range(size, salt) {
+    if !ranged {
         return Reading::BadRange;
     }
-    if !has_all_room(ids, hashes, counts, ours, theirs, size) {
+    if !roomy {
         return Reading::NoRoom;
     }
-    let p = peel_difference(table, ids, hashes, counts, ours, theirs, size, salt);
-    let a = p.ours;
-    let b = p.theirs;
-    let v = crate::judging::judge(table, ids, hashes, counts, ours, theirs, p.fine, a, b, size);
-    match v {
-        Verdict::Complete => Reading::Complete { ours: a, theirs: b },
-        Verdict::Stuck => Reading::Stuck { ours: a, theirs: b },
-        Verdict::False => {
-            clear_all(ids, hashes, counts, ours, theirs, size as usize);
-            Reading::Untrue
-        }
-    }
+    read_difference(table, ids, hashes, counts, ours, theirs, size, salt)
 }
 
 // Makes columns and lists zero in the first size places, as a false reading leaves them. Refused: a column or list shorter than size; then nothing
@@ -75,6 +67,37 @@ pub fn clear(
     }
     clear_all(ids, hashes, counts, ours, theirs, size as usize);
     Refusal::None
+}
+
+// Reads what no test refuses.
+fn read_difference(
+    table: &[u8],
+    ids: &mut [u64],
+    hashes: &mut [u32],
+    counts: &mut [i64],
+    ours: &mut [u64],
+    theirs: &mut [u64],
+    size: u32,
+    salt: u32,
+) -> Reading
+    requires { ⌜ Ready size salt (now table) (columns (now ids) (now hashes) (now counts)) (now ours) (now theirs) ⌝ }
+    ensures { λ r. ⌜ answered (answerOf r) (columns (now (ids .exit)) (now (hashes .exit)) (now (counts .exit))) (now (ours .exit)) (now (theirs .exit))
+        ≡ readWith (verdictOf firstEight size salt (now (table .entry)) (columns (now (ids .entry)) (now (hashes .entry)) (now (counts .entry)))) size
+        (outcomeOf firstEight size salt (now (table .entry)) (columns (now (ids .entry)) (now (hashes .entry)) (now (counts .entry))))
+        (columns (now (ids .entry)) (now (hashes .entry)) (now (counts .entry))) (now (ours .entry)) (now (theirs .entry)) ⌝ }
+{
+    let p = peel_difference(table, ids, hashes, counts, ours, theirs, size, salt);
+    let a = p.ours;
+    let b = p.theirs;
+    let v = crate::judging::judge(table, ids, hashes, counts, ours, theirs, p.fine, a, b, size);
+    match v {
+        Verdict::Complete => Reading::Complete { ours: a, theirs: b },
+        Verdict::Stuck => Reading::Stuck { ours: a, theirs: b },
+        Verdict::False => {
+            clear_all(ids, hashes, counts, ours, theirs, size as usize);
+            Reading::Untrue
+        }
+    }
 }
 
 fn is_well_formed(table: &[u8], counts: &[i64], size: u32) -> bool

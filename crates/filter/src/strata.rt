@@ -57,7 +57,7 @@ pub(crate) fn read_all(
     let mut total: u64 = 0;
     let mut n: usize = 32;
     while 0 < n {
-        n -= 1;
+        let s = n - 1;
         let r = read_one(
             tab,
             ids,
@@ -66,13 +66,14 @@ pub(crate) fn read_all(
             &mut heads,
             &mut links,
             &mut seen,
-            n,
+            s,
             salt,
         );
         if !r.complete {
-            return total << (n + 1);
+            return total << (s + 1);
         }
         total += r.listed as u64;
+        n -= 1;
     }
     total
 }

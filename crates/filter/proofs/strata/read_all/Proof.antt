@@ -27,39 +27,34 @@ loop-holds c =
 read-one-requires : tie.Need-read-one-requires Inv-loop μ-loop
 read-one-requires c κs =
     let s = c .before .before .before .before .before .before .before .before .before .before in
-    let at = c .before .before .before .before .before .before .before .loop in
+    let inv = c .before .before .before .before .before .before .before .loop .inv in
     let more = c .before .before .before .before .before .before .loop-test .taken in (
       s .pre .0,
       s .pre .1,
-      omega (arith, at .inv .few),
-      at .inv .wide,
-      record { all = λ i h. at .inv .small .all i (omega (arith, h, more)) },
-      at .inv .chains,
+      omega (arith, inv .few),
+      inv .wide,
+      record { all = λ i h. inv .small .all i (omega (arith, h, more)) },
+      inv .chains,
     )
 
 shl-result : tie.Need-shl-result Inv-loop μ-loop
-shl-result c = omega (arith, c .before .before .before .before .before .before .before .before .before .before .before .before .before .before .before .loop .inv .few)
+shl-result c = omega (arith, c .before .before .before .before .before .before .before .before .before .before .before .before .before .before .before .loop .inv .few, c .before .before .before .before .before .before .before .before .before .before .before .before .before .before .loop-test .taken)
 
 returns : tie.Need-returns Inv-loop μ-loop
 returns c =
-    let at = c .before .before .before .before .before .before .before .before .before .before .before .before .before .before .before .loop in
-    let more = c .before .before .before .before .before .before .before .before .before .before .before .before .before .before .loop-test .taken in
     let read = c .before .before .before .before .before .before .before .read-one in
     let left = columns (read .last .1 .0) (read .last .1 .1 .0) (read .last .1 .1 .1 .0) in
-    tally-stop (at .n - 1) left (at .inv) (omega (arith, more)) (read .ensures .0) (read .ensures .1) (c .if1 .taken)
+    tally-stop (c .before .before .before .before .before .before .before .before .before .before .before .before .before .before .before .loop .n - 1) left (c .before .before .before .before .before .before .before .before .before .before .before .before .before .before .before .loop .inv) (omega (arith, c .before .before .before .before .before .before .before .before .before .before .before .before .before .before .loop-test .taken)) (read .ensures .0) (read .ensures .1) (c .if1 .taken)
 
 add-total : tie.Need-add-total Inv-loop μ-loop
-add-total c =
-    let at = c .before .before .before .before .before .before .before .before .before .before .before .before .before .before .before .loop in
-    omega (arith, at .inv .bound, c .before .before .before .before .before .before .before .read-one .ensures .0 .few)
+add-total c = omega (arith, c .before .before .before .before .before .before .before .before .before .before .before .before .before .before .before .loop .inv .bound, c .before .before .before .before .before .before .before .read-one .ensures .0 .few)
 
 loop-again : tie.Need-loop-again Inv-loop μ-loop
 loop-again c =
-    let at = c .before .before .before .before .before .before .before .before .before .before .before .before .before .before .before .loop in
-    let more = c .before .before .before .before .before .before .before .before .before .before .before .before .before .before .loop-test .taken in
     let read = c .before .before .before .before .before .before .before .read-one in
     let left = columns (read .last .1 .0) (read .last .1 .1 .0) (read .last .1 .1 .1 .0) in
-    tally-next (at .n - 1) left (at .inv) (omega (arith, more)) (read .ensures .0) (read .ensures .1) (c .if1 .left) (read .ensures .2)
+    tally-next (c .before .before .before .before .before .before .before .before .before .before .before .before .before .before .before .loop .n - 1) left (c .before .before .before .before .before .before .before .before .before .before .before .before .before .before .before .loop .inv) (omega (arith, c .before .before .before .before .before .before .before .before .before .before .before .before .before .before .loop-test .taken)) (read .ensures .0) (read .ensures .1)
+    (c .if1 .left) (read .ensures .2)
 
 returns-2 : tie.Need-returns-2 Inv-loop μ-loop
 returns-2 c = tally-end (c .before .loop .inv) (omega arith)
@@ -69,5 +64,5 @@ read-all-spec =
     tie.close
     (tie.spec
     Inv-loop μ-loop loop-holds (λ c. search needs) read-one-requires (λ c. search needs) shl-result (λ c. search needs) (λ c. search needs)
-    (λ c. search needs) returns add-total (λ c. search needs) loop-again (λ c. search needs) (λ c. search needs) (λ c. search needs)
-    returns-2)
+    (λ c. search needs) returns add-total (λ c. search needs) (λ c. search needs) loop-again (λ c. search needs) (λ c. search needs)
+    (λ c. search needs) returns-2)
