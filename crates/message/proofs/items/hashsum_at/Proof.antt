@@ -1,6 +1,4 @@
 -- `items::hashsum_at` meets its contract: the HASHSUMs are numbers of 4 bytes behind the IDSUMs, so each fits in 32 bits. Assumes nothing.
-use Prim.Native.Nat.{_+_, _*_}
-use native.Mathlib.Omega.{arith}
 use borrow.Author.Tests.{le-leb, lt-leb, le-ltb, lt-ltb}
 use Rattle.message.specs.Items.{hashsumAt}
 use Rattle.message.proofs.ReachLaws.{number-below}
@@ -26,7 +24,7 @@ item-at-requires : tie.Need-item-at-requires
 item-at-requires c κs = search needs
 
 cast-result : tie.Need-cast-result
-cast-result c = let a = c .before .before .before .before .args in omega (arith, c .item-at .ensures, number-below 4 (16 + 8 * a .n) (a .s .now) (a .i))
+cast-result c = record { fits = rw (c .item-at .ensures) (number-below 4 _ _ _) }
 
 returns-3 : tie.Need-returns-3
 unfolding hashsumAt

@@ -42,7 +42,7 @@ returns c =
 lay-ids-requires : tie.Need-lay-ids-requires
 lay-ids-requires c κs =
     let a = c .before .before .before .before .before .before .before .before .before .args in
-    (omega (arith, takes-columns (a .width) (a .n) (length (a .s .now)) (c .before .before .before .before .before .before .before .before .before .pre .2) .0), wide (c .before) .idsums)
+    (omega (arith, takes-columns (a .width) (a .n) (length (a .s .now)) (c .before .before .before .before .before .before .before .before .before .pre .2) .0), omega (arith, wide (c .before) .idsums))
 
 mul-lay-hashes : tie.Need-mul-lay-hashes
 mul-lay-hashes c = search needs
@@ -53,7 +53,7 @@ add-lay-hashes c = search needs
 lay-hashes-requires : tie.Need-lay-hashes-requires
 lay-hashes-requires c κs =
     let a = c .before .before .before .before .before .before .before .before .before .before .before .before .before .args in
-    (omega (arith, takes-columns (a .width) (a .n) (length (a .s .now)) (c .before .before .before .before .before .before .before .before .before .before .before .before .before .pre .2) .1), wide (c .before .before .before .before .before) .hashsums)
+    (omega (arith, takes-columns (a .width) (a .n) (length (a .s .now)) (c .before .before .before .before .before .before .before .before .before .before .before .before .before .pre .2) .1), omega (arith, wide (c .before .before .before .before .before) .hashsums))
 
 mul-unpack : tie.Need-mul-unpack
 mul-unpack c = search needs

@@ -17,10 +17,10 @@ sub-t9 : tie.Need-sub-t9
 sub-t9 c = search needs
 
 returns-2 : tie.Need-returns-2
-returns-2 c = inquiry-whole _ (c .before .before .if1 .left) (c .before .word-at .ensures) (c .if2 .taken)
+returns-2 c = inquiry-whole (c .before .before .before .before .args .s .now) (c .before .before .if1 .left) (c .before .word-at .ensures) (c .if2 .taken)
 
 returns-3 : tie.Need-returns-3
-returns-3 c = inquiry-torn _ (c .before .before .if1 .left) (c .before .word-at .ensures) (c .if2 .left)
+returns-3 c = inquiry-torn (c .before .before .before .before .args .s .now) (c .before .before .if1 .left) (c .before .word-at .ensures) (c .if2 .left)
 
 pub read-inquiry-spec : {M : Type 1} → statement M
 read-inquiry-spec = tie.close (tie.spec returns word-at-requires sub-t9 returns-2 returns-3)
