@@ -18,7 +18,7 @@ use Rattle.message.specs.declared.walking.Walked.the-variants.{Broken, E
 use Rattle.message.specs.Layout.{DEMAND, INQUIRY, OFFER, IBF, ELEMENT, IBF-LAST, DONE, inquiry, offer, demand, element, done, layout, framed, inSlice, sliceType, sliceBytes, sliceGood, Good}
 use Rattle.message.specs.Reading.{numbersOf}
 use Rattle.message.specs.Walking.{walkNumbers}
-use Rattle.message.specs.Writing.{layouts, piecesOf, inquiriesOf, offersOf, demandsOf, slicesOf, haveRoom, Write, wrote, inquiryCall, hashesCall, elementCall, doneCall, writtenOf}
+use Rattle.message.specs.Writing.{layouts, piecesOf, inquiriesOf, offersOf, demandsOf, slicesOf, haveRoom, wrote, inquiryCall, hashesCall, elementCall, doneCall, writtenOf}
 
 -- "37 buckets at width 2 is 470 bytes; 4,096 at width 4 is 31,516 then 19,716."
 pub sizes :
