@@ -3,6 +3,7 @@
 --
 --   walk-layout     a message in range between any bytes is found, with the place behind it
 --   Walks s at cs   from position at on the walk of s finds the messages cs, one behind the other, and each says what it was
+--   walks-there     where the bytes from a position on are those of messages in range, the walk finds them
 --   walked-back     the walk of a buffer that messages in range were written into finds them
 --   exactly-one     a buffer is read as m, which is not malformed, exactly where its walk finds m from its start to its end
 --   walk-stops      where the walk stops short, it hands out the position that it stands at, and the bytes there are malformed

@@ -1,4 +1,4 @@
--- The laws of the crate `message`, for its own proofs and for the crates above. ExactLaws, ItemLaws and RoundLaws are what a reader looks at.
+-- The laws of the crate `message`, for its own proofs and for the crates above. ExactLaws, ItemLaws, RoundLaws and ThroughLaws are what a reader looks at.
 pub mod WholeLaws
 pub mod FrameLaws
 pub mod ReadLaws

@@ -1,4 +1,4 @@
--- `message::reader::message_at` meets its contract: a walk of its MIR, by hand. A reader is made at the position and passed to `next`; of the answer, what was found is the result.
+-- `reader::message_at` meets its contract: a walk of its MIR, by hand. A reader is made at the position and passed to `next`; of the answer, what was found is the result.
 -- All that the proof knows of `new` and of `next` is that each meets its contract (`ReaderLaws`).
 -- Assumes nothing.
 use mathlib.Core.Path.{_≡_, refl}

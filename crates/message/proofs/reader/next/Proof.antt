@@ -1,4 +1,4 @@
--- `message::reader::next` meets its contract: a walk of its MIR, by hand. The struct is taken apart, `walk_at` is called on the slice and the number, then `behind` on what it found; the result holds that and a reader at the position behind. All that the proof knows of either callee is that it meets its contract.
+-- `reader::next` meets its contract: a walk of its MIR, by hand. The struct is taken apart, `walk_at` is called on the slice and the number, then `behind` on what it found; the result holds that and a reader at the position behind. All that the proof knows of either callee is that it meets its contract.
 -- The struct is Copy: what it owns is had three times, one for the exit, one that gives src to the callee beside the lifetime's token, which comes back, and one that becomes the reader behind. What was found owns only facts, so it is made wherever it is asked for.
 -- Assumes nothing.
 use mathlib.Core.Path.{_≡_, refl, ap, _∙_}

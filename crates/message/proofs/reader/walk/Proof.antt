@@ -1,4 +1,4 @@
--- `message::reader::walk` meets its contract: a walk of its MIR, by hand, with its loop. A reader at the start is passed to `next`; while a message is found, the reader behind it is passed to `next` again.
+-- `reader::walk` meets its contract: a walk of its MIR, by hand, with its loop. A reader at the start is passed to `next`; while a message is found, the reader behind it is passed to `next` again.
 -- Each time round the local holds the answer of `next` at some position, no more messages were counted than there are bytes before it, and the walk from there on gives the answer of the whole (`Place`). How many more can be counted falls each time (`Nearer`).
 -- All that the proof knows of its callees is that each meets its contract.
 -- Assumes nothing.
