@@ -16,7 +16,6 @@ pub mod SaltLaws
 pub mod CountLaws
 pub mod SearchLaws
 pub mod PlaceLaws
-pub mod StraightLaws
 pub mod BucketLaws
 pub mod PurityLaws
 pub mod SmallLaws

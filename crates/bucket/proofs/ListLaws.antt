@@ -3,8 +3,9 @@ use mathlib.Core.Path.{_≡_, refl, sym, ap, ap₂, subst, _∙_}
 use mathlib.Core.Logic.{_≢_}
 use mathlib.Core.Bool.{Bool, true, false, _||_, cond, true≢false, false≢true}
 use mathlib.Core.List.{List, [], _∷_, _++_, append-assoc}
-use Prim.Native.Nat.{ℕ, zero, suc, _-_, _≤_, _<_, zero-le, suc-le-suc}
+use Prim.Native.Nat.{ℕ, zero, suc, _+_, _-_, _≤_, _<_, zero-le, suc-le-suc}
 use native.Mathlib.Nat.{le-of-suc-le-suc}
+use native.Mathlib.Numerals.{add-one}
 use native.Mathlib.Omega.{arith}
 use lib.Dec.{eqb}
 use lib.ListN.{length, getD, take, set, replicate, length-append, length-replicate, List·getD-append}
@@ -97,15 +98,18 @@ at-index a (b ∷ l) e = go (eqb a b) refl (at-index a l)
     go false q ih = let r = ih (sym (elem-cons-ne a b l (eqb-false a b q)) ∙ e) in (suc (r .0), suc-le-suc (r .1), r .2)
 
 -- the first n, by index
-pub elem-take : (a : ℕ) (l : List ℕ) (j n : ℕ) → j < n → n ≤ length l → a ≡ getD l j 0 → elem a (take n l) ≡ true
+pub elem-take : (a : ℕ) (l : List ℕ) (j n : ℕ) → j < n → n ≤ length l → getD l j 0 ≡ a → elem a (take n l) ≡ true
 elem-take a [] j n h g e = absurd (omega arith)
 elem-take a (b ∷ l) j zero h g e = absurd (omega arith)
-elem-take a (b ∷ l) zero (suc n) h g e = rw e (elem-head b (take n l))
+elem-take a (b ∷ l) zero (suc n) h g e = rw (sym e) (elem-head b (take n l))
 elem-take a (b ∷ l) (suc j) (suc n) h g e = elem-tail a b (take n l) (elem-take a l j n (le-of-suc-le-suc h) (le-of-suc-le-suc g) e)
 
-pub elem-take-more : (a : ℕ) (l : List ℕ) (j : ℕ) → j < length l → elem a (take j l) ≡ false → a ≢ getD l j 0 → elem a (take (suc j) l) ≡ false
+pub elem-take-more : (a : ℕ) (l : List ℕ) (j : ℕ) → j < length l → elem a (take j l) ≡ false → getD l j 0 ≢ a → elem a (take (j + 1) l) ≡ false
 elem-take-more a l j h f ne =
-    ap (elem a) (take-suc l j 0 h) ∙ elem-last a (getD l j 0) (take j l) ∙ ap₂ (λ (s t : Bool). s || t) f (ne-eqb a (getD l j 0) ne)
+    ap (λ (m : ℕ). elem a (take m l)) (add-one j)
+    ∙ ap (elem a) (take-suc l j 0 h)
+    ∙ elem-last a (getD l j 0) (take j l)
+    ∙ ap₂ (λ (s t : Bool). s || t) f (ne-eqb a (getD l j 0) (λ e. ne (sym e)))
 
 -- ---- distinctness
 

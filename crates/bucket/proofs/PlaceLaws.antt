@@ -1,15 +1,15 @@
 -- The places of an element: as many as asked for if the filter has them, distinct, and below its size. Assumes nothing.
-use mathlib.Core.Path.{_≡_, refl, sym, ap, ap₂, subst, _∙_}
+use mathlib.Core.Path.{_≡_, refl, sym, ap, ap₂, _∙_}
 use mathlib.Core.Bool.{Bool, true, false, _||_, cond, false≢true}
 use mathlib.Core.List.{List, [], _∷_, _++_}
 use Prim.Native.Nat.{ℕ, zero, suc, _+_, _-_, _%_, _≤_, _<_, min, zero-le}
-use native.Mathlib.Nat.{mod-lt, le-of-suc-le-suc, add-zero, add-suc, suc-add}
+use native.Mathlib.Nat.{mod-lt}
 use native.Mathlib.Numerals.{add-one}
 use native.Mathlib.Omega.{arith}
 use lib.Dec.{ltb, leb, eqb}
-use lib.ListN.{length, getD, drop, length-append, drop-of-length-le}
-use lib.Seq.{drop-cons}
-use borrow.Author.Tests.{le-ltb, ltb-true, ltb-false, leb-true, leb-false, eqb-true, eqb-false}
+use lib.ListN.{length, getD, take, drop, replicate, length-append}
+use lib.Seq.{drop-cons, take-at}
+use borrow.Author.Tests.{ltb-true, ltb-false, leb-true, leb-false, eqb-true}
 use Rattle.bucket.specs.Crc.{crcTables, nextBy}
 use Rattle.bucket.specs.Lists.{pad, elem, Distinct}
 use Rattle.bucket.specs.Places.{draw, crcNext, candidate, candidates, keep, firsts, placesBy, places, placeCount}
@@ -19,32 +19,18 @@ use Rattle.bucket.proofs.ListLaws.{
   elem-nil,
   elem-head,
   elem-tail,
-  elem-cons-ne,
   elem-cases,
   elem-append,
   elem-last,
   elem-at,
+  at-index,
   distinct-last,
   distinct-below,
   covered-below,
   pad-at,
 }
-use Rattle.bucket.proofs.SearchLaws.{firsts-full, places-of-some}
-use Rattle.bucket.proofs.TableLaws.{next-by-tables}
-
--- ---- none
-
-pub places-of-none : (next : ℕ → ℕ → ℕ) (k d : ℕ) → placesBy next k 0 d ≡ []
-unfolding placesBy
-places-of-none next k d = refl
-
-pub places-zero : (next : ℕ → ℕ → ℕ) (size d : ℕ) → placesBy next 0 size d ≡ []
-unfolding placesBy
-places-zero next size d = go (eqb size 0)
-  where
-    go : (b : Bool) → cond b [] (firsts 0 [] (candidates next size d 0 (64 + size))) ≡ []
-    go true = refl
-    go false = firsts-full 0 [] (candidates next size d 0 (64 + size)) zero-le
+use Rattle.bucket.proofs.SearchLaws.{firsts-full, firsts-take, inTurn, number-at, places-of-some}
+use Rattle.bucket.proofs.TableLaws.{tabulated-length, tabulated-at, tabulated-rest, next-by-tables}
 
 -- ---- what each candidate leaves
 
@@ -86,38 +72,25 @@ candidate-below next size d i z h = go (ltb i 64) refl
     go true p = mod-lt (draw next d i) z
     go false p = omega (arith, ltb-false i 64 p)
 
-candidates-below : (next : ℕ → ℕ → ℕ) (size d i m : ℕ) → 0 < size → i + m ≤ 64 + size
-    → (c : ℕ) → elem c (candidates next size d i m) ≡ true → c < size
-unfolding candidates
-candidates-below next size d i zero z h c e = absurd (false≢true (sym (elem-nil c) ∙ e))
-candidates-below next size d i (suc m) z h c e =
-    elem-cases (λ (v : ℕ). v < size) c (candidate next size d i) (candidates next size d (suc i) m) e
-    (candidate-below next size d i z (omega arith))
-    (λ f. candidates-below next size d (suc i) m z (omega arith) c f)
+in-turn-below : (next : ℕ → ℕ → ℕ) (size d c : ℕ) → 0 < size → elem c (inTurn next size d) ≡ true → c < size
+in-turn-below next size d c z e =
+    let r = at-index c (inTurn next size d) e in
+    let l : r .0 < 64 + size = omega (arith, r .1, tabulated-length (candidate next size d) 0 (64 + size)) in
+    omega (arith, r .2, tabulated-at (candidate next size d) 0 (64 + size) (r .0) l, candidate-below next size d (0 + r .0) z (omega arith))
 
 places-good : (next : ℕ → ℕ → ℕ) (k size d : ℕ) → Good k size (placesBy next k size d)
 unfolding placesBy
-places-good next k size d = go (eqb size 0) refl
-  where
-    go : (b : Bool) → eqb size 0 ≡ b → Good k size (cond b [] (firsts k [] (candidates next size d 0 (64 + size))))
-    go true p = good-nil k size
-    go false p =
-        let ne = eqb-false size 0 p in
-        good-firsts k size [] (candidates next size d 0 (64 + size)) (good-nil k size)
-        (candidates-below next size d 0 (64 + size) (some ne) (omega arith))
-      where
-        some : (size ≡ 0 → ⊥) → 0 < size
-        some ne = omega arith
+places-good next k zero d = good-nil k 0
+places-good next k (suc m) d =
+    let some : 0 < suc m = omega arith in
+    rw (places-of-some next k (suc m) d some)
+    (good-firsts k (suc m) [] (inTurn next (suc m) d) (good-nil k (suc m)) (λ c e. in-turn-below next (suc m) d c some e))
 
 pub places-distinct : (next : ℕ → ℕ → ℕ) (k size d : ℕ) → Distinct (placesBy next k size d)
 places-distinct next k size d = places-good next k size d .distinct
 
 pub places-below : (next : ℕ → ℕ → ℕ) (k size d p : ℕ) → elem p (placesBy next k size d) ≡ true → p < size
 places-below next k size d p e = places-good next k size d .below p e
-
-pub places-below-at : (next : ℕ → ℕ → ℕ) (k size d j : ℕ) → j < length (placesBy next k size d) → getD (placesBy next k size d) j 0 < size
-places-below-at next k size d j h =
-    places-below next k size d (getD (placesBy next k size d) j 0) (elem-at (placesBy next k size d) j h)
 
 -- ---- there are enough
 
@@ -129,13 +102,13 @@ stays-keep k v c t h = go (leb k (length t) || elem c t)
     go true = h
     go false = elem-append v t (c ∷ []) ∙ ap (λ (b : Bool). b || elem v (c ∷ [])) h
 
-pub stays-firsts : (k v : ℕ) (t cs : List ℕ) → elem v t ≡ true → elem v (firsts k t cs) ≡ true
+stays-firsts : (k v : ℕ) (t cs : List ℕ) → elem v t ≡ true → elem v (firsts k t cs) ≡ true
 unfolding firsts
 stays-firsts k v t [] h = h
 stays-firsts k v t (c ∷ cs) h = stays-firsts k v (keep k t c) cs (stays-keep k v c t h)
 
 -- a candidate is there after its turn, unless there were k before it
-pub keep-covers : (k c : ℕ) (t : List ℕ) → length t < k → elem c (keep k t c) ≡ true
+keep-covers : (k c : ℕ) (t : List ℕ) → length t < k → elem c (keep k t c) ≡ true
 keep-covers k c t h = go (leb k (length t)) (elem c t) refl refl
   where
     go : (a b : Bool) → leb k (length t) ≡ a → elem c t ≡ b → elem c (cond (a || b) t (t ++ c ∷ [])) ≡ true
@@ -156,50 +129,28 @@ firsts-covers k t (b ∷ cs) h c e =
     short true p = absurd (omega (arith, h, leb-true k (length t) p, ap length (firsts-full k t (b ∷ cs) (leb-true k (length t) p))))
     short false p = leb-false k (length t) p
 
-candidates-elem : (next : ℕ → ℕ → ℕ) (size d i m j : ℕ) → j < m → elem (candidate next size d (i + j)) (candidates next size d i m) ≡ true
-unfolding candidates
-candidates-elem next size d i zero j h = absurd (omega arith)
-candidates-elem next size d i (suc m) zero h =
-    ap (λ (n : ℕ). elem (candidate next size d n) (candidates next size d i (suc m))) (add-zero i)
-    ∙ elem-head (candidate next size d i) (candidates next size d (suc i) m)
-candidates-elem next size d i (suc m) (suc j) h =
-    elem-tail (candidate next size d (i + suc j)) (candidate next size d i) (candidates next size d (suc i) m)
-    (ap (λ (n : ℕ). elem (candidate next size d n) (candidates next size d (suc i) m)) (add-suc i j ∙ sym (suc-add i j))
-    ∙ candidates-elem next size d (suc i) m j (le-of-suc-le-suc h))
-
 -- the last candidates are all the bucket numbers
-numbers-elem : (next : ℕ → ℕ → ℕ) (size d b : ℕ) → b < size → elem b (candidates next size d 0 (64 + size)) ≡ true
+numbers-elem : (next : ℕ → ℕ → ℕ) (size d b : ℕ) → b < size → elem b (inTurn next size d) ≡ true
 numbers-elem next size d b h =
-    ap (λ (v : ℕ). elem v (candidates next size d 0 (64 + size))) (sym number)
-    ∙ candidates-elem next size d 0 (64 + size) (64 + b) (omega arith)
-  where
-    number : candidate next size d (0 + (64 + b)) ≡ b
-    number =
-        ap (λ (t : Bool). cond t (draw next d (0 + (64 + b)) % size) (0 + (64 + b) - 64)) (le-ltb (0 + (64 + b)) 64 (omega arith))
-        ∙ omega arith
+    ap (λ (v : ℕ). elem v (inTurn next size d)) (sym (number-at next size d b h))
+    ∙ elem-at (inTurn next size d) (64 + b) (omega (arith, tabulated-length (candidate next size d) 0 (64 + size)))
 
 pub places-length : (next : ℕ → ℕ → ℕ) (k size d : ℕ) → length (placesBy next k size d) ≡ min k size
-places-length next k size d = go (leb k (length (placesBy next k size d))) refl (leb size (length (placesBy next k size d))) refl
+places-length next k size d = go (leb k (length (placesBy next k size d))) refl
   where
     most : length (placesBy next k size d) ≤ size
     most = distinct-below size (placesBy next k size d) (places-distinct next k size d) (places-below next k size d)
 
     -- fewer than k: then every bucket is taken
-    all : length (placesBy next k size d) < k → 0 < size → size ≤ length (placesBy next k size d)
-    all h z =
-        let e = places-of-some next k size d z in
+    all : length (placesBy next k size d) < k → size ≤ length (placesBy next k size d)
+    all h =
         covered-below size (placesBy next k size d) (λ b l.
-        ap (elem b) e
-        ∙ firsts-covers k [] (candidates next size d 0 (64 + size)) (subst (λ (t : List ℕ). length t < k) e h) b (numbers-elem next size d b l))
+        let e = places-of-some next k size d (omega arith) in
+        ap (elem b) e ∙ firsts-covers k [] (inTurn next size d) (rw e at h) b (numbers-elem next size d b l))
 
-    go : (a : Bool) → leb k (length (placesBy next k size d)) ≡ a → (b : Bool) → leb size (length (placesBy next k size d)) ≡ b
-        → length (placesBy next k size d) ≡ min k size
-    go true p b q = omega (arith, leb-true k (length (placesBy next k size d)) p, places-good next k size d .few, most)
-    go false p true q = omega (arith, leb-false k (length (placesBy next k size d)) p, leb-true size (length (placesBy next k size d)) q, most)
-    go false p false q =
-        let few = leb-false k (length (placesBy next k size d)) p in
-        let less = leb-false size (length (placesBy next k size d)) q in
-        omega (arith, all few (omega arith))
+    go : (a : Bool) → leb k (length (placesBy next k size d)) ≡ a → length (placesBy next k size d) ≡ min k size
+    go true p = omega (arith, leb-true k (length (placesBy next k size d)) p, places-good next k size d .few, most)
+    go false p = let few = leb-false k (length (placesBy next k size d)) p in omega (arith, all few, most)
 
 pub places-count : (next : ℕ → ℕ → ℕ) (k size d : ℕ) → k ≤ size → length (placesBy next k size d) ≡ k
 places-count next k size d h = omega (arith, places-length next k size d)
@@ -224,7 +175,7 @@ module _ (f g : ℕ → ℕ → ℕ) (agree : (e i : ℕ) → i < 64 → f e i �
   candidates-agree size d i zero = refl
   candidates-agree size d i (suc m) = ap₂ (λ (c : ℕ) (cs : List ℕ). c ∷ cs) (candidate-agree size d i) (candidates-agree size d (suc i) m)
 
-  pub places-agree : (k size d : ℕ) → placesBy f k size d ≡ placesBy g k size d
+  places-agree : (k size d : ℕ) → placesBy f k size d ≡ placesBy g k size d
   unfolding placesBy
   places-agree k size d = ap (λ (cs : List ℕ). cond (eqb size 0) [] (firsts k [] cs)) (candidates-agree size d 0 (64 + size))
 
@@ -242,7 +193,7 @@ pub place : (next : ℕ → ℕ → ℕ) (k size d n : ℕ) (r : List ℕ) (j : 
     → Place next k size d r j
 place next k size d n r j e h = record {
   entry = same;
-  below = subst (λ (v : ℕ). v < size) (sym same) (places-below-at next k size d j within);
+  below = rw same (places-below next k size d (getD (placesBy next k size d) j 0) (elem-at (placesBy next k size d) j within));
   rest = drop-cons (placesBy next k size d) j 0 within
       ∙ ap₂ (λ (v m : ℕ). v ∷ drop m (placesBy next k size d)) (sym same) (sym (add-one j));
 }
@@ -253,26 +204,23 @@ place next k size d n r j e h = record {
     same : getD r j 0 ≡ getD (placesBy next k size d) j 0
     same = ap (λ (l : List ℕ). getD l j 0) e ∙ pad-at n (placesBy next k size d) j within
 
--- a bucket looked for among the places by index: so far it was none of them
-module _ (next : ℕ → ℕ → ℕ) (k size d n : ℕ) (r : List ℕ) (e : r ≡ pad n (placesBy next k size d)) (a j : ℕ)
-    (passed : elem a (drop j (placesBy next k size d)) ≡ elem a (placesBy next k size d)) where
-  next-of : j < min k size → elem a (getD r j 0 ∷ drop (j + 1) (placesBy next k size d)) ≡ elem a (placesBy next k size d)
-  next-of h = ap (elem a) (sym (place next k size d n r j e h .rest)) ∙ passed
+-- the places without the zeros behind them
+pub places-back : (next : ℕ → ℕ → ℕ) (k size d cap n : ℕ) → n ≡ min k size → take n (pad cap (placesBy next k size d)) ≡ placesBy next k size d
+unfolding pad
+places-back next k size d cap n e =
+    take-at (placesBy next k size d) (replicate (cap - length (placesBy next k size d)) 0) n (sym (e ∙ sym (places-length next k size d)))
 
-  pub place-hit : j < min k size → getD r j 0 ≡ a → true ≡ elem a (placesBy next k size d)
-  place-hit h q =
-      sym (elem-head a (drop (j + 1) (placesBy next k size d)))
-      ∙ ap (λ (v : ℕ). elem a (v ∷ drop (j + 1) (placesBy next k size d))) (sym q)
-      ∙ next-of h
+-- draw 0 leads to a place
+pub first-placed : (next : ℕ → ℕ → ℕ) (k size d : ℕ) → 0 < k → 0 < size → elem (d % size) (placesBy next k size d) ≡ true
+unfolding draw
+first-placed next k size d h z =
+    ap (elem (d % size))
+    (places-of-some next k size d z
+    ∙ ap (firsts k []) (tabulated-rest (candidate next size d) (64 + size) 0 (omega arith))
+    ∙ firsts-take k (d % size) [] (drop (0 + 1) (inTurn next size d)) h (elem-nil (d % size)))
+    ∙ stays-firsts k (d % size) (d % size ∷ []) (drop (0 + 1) (inTurn next size d)) (elem-head (d % size) [])
 
-  pub place-miss : j < min k size → (getD r j 0 ≡ a → ⊥) → elem a (drop (j + 1) (placesBy next k size d)) ≡ elem a (placesBy next k size d)
-  place-miss h ne = sym (elem-cons-ne a (getD r j 0) (drop (j + 1) (placesBy next k size d)) (λ q. ne (sym q))) ∙ next-of h
-
-  pub place-none : min k size ≤ j → false ≡ elem a (placesBy next k size d)
-  place-none h =
-      sym (ap (elem a) (drop-of-length-le (placesBy next k size d) {i = j} (omega (arith, places-length next k size d))) ∙ elem-nil a) ∙ passed
-
--- ---- how many an element has
+-- ---- how many places an element has: all that the crates above know of the number
 
 pub place-count-some : (size : ℕ) → 1 ≤ placeCount size
 unfolding placeCount

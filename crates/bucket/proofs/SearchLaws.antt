@@ -1,18 +1,20 @@
--- What a turn of the search for places does to what is still to be found. Assumes nothing.
+-- The search for places: what each candidate does to those taken, and what holds before each draw and each bucket number that is looked at.
+-- Assumes nothing.
 use mathlib.Core.Path.{_≡_, refl, sym, ap, ap₂, _∙_}
 use mathlib.Core.Bool.{Bool, true, false, _||_, cond}
 use mathlib.Core.List.{List, [], _∷_, _++_}
-use Prim.Native.Nat.{ℕ, suc, _+_, _-_, _%_, _≤_, _<_}
-use native.Mathlib.Nat.{sub-zero}
+use Prim.Native.Nat.{ℕ, zero, suc, _+_, _-_, _%_, _≤_, _<_, zero-le}
 use native.Mathlib.Numerals.{add-one}
 use native.Mathlib.Omega.{arith}
 use lib.Dec.{leb}
-use lib.ListN.{length, take, set, length-set}
-use lib.Seq.{take-suc-set, length-take-le}
+use lib.ListN.{length, getD, take, drop, set, length-set, length-drop}
+use lib.Seq.{ext-getD, getD-drop, take-suc-set, length-take-le}
 use borrow.Author.Tests.{le-leb, lt-leb, le-ltb, lt-ltb, ne-eqb}
+use Rattle.bucket.specs.Crc.{tabulated}
 use Rattle.bucket.specs.Lists.{pad, elem}
 use Rattle.bucket.specs.Places.{draw, candidate, candidates, firsts, placesBy}
 use Rattle.bucket.proofs.ListLaws.{or-true-r, pad-last}
+use Rattle.bucket.proofs.TableLaws.{tabulated-length, tabulated-at, tabulated-rest}
 
 -- ---- one candidate
 
@@ -24,7 +26,7 @@ firsts-full k t (c ∷ cs) h =
     ap (λ (b : Bool). firsts k (cond (b || elem c t) t (t ++ c ∷ [])) cs) (le-leb k (length t) h) ∙ firsts-full k t cs h
 
 -- it is one of those taken
-pub firsts-skip : (k c : ℕ) (t cs : List ℕ) → elem c t ≡ true → firsts k t (c ∷ cs) ≡ firsts k t cs
+firsts-skip : (k c : ℕ) (t cs : List ℕ) → elem c t ≡ true → firsts k t (c ∷ cs) ≡ firsts k t cs
 unfolding firsts
 firsts-skip k c t cs h =
     ap (λ (b : Bool). firsts k (cond b t (t ++ c ∷ [])) cs) (ap (λ (b : Bool). leb k (length t) || b) h ∙ or-true-r (leb k (length t)))
@@ -35,130 +37,139 @@ unfolding firsts
 firsts-take k c t cs l h =
     ap (λ (b : Bool). firsts k (cond b t (t ++ c ∷ [])) cs) (ap₂ (λ (a b : Bool). a || b) (lt-leb k (length t) l) h)
 
-pub candidate-draw : (next : ℕ → ℕ → ℕ) (size d i e : ℕ) → i < 64 → e ≡ draw next d i → e % size ≡ candidate next size d i
+-- ---- the candidates
+
+candidate-draw : (next : ℕ → ℕ → ℕ) (size d i e : ℕ) → i < 64 → e ≡ draw next d i → candidate next size d i ≡ e % size
 candidate-draw next size d i e h q =
-    ap (λ (v : ℕ). v % size) q ∙ sym (ap (λ (b : Bool). cond b (draw next d i % size) (i - 64)) (lt-ltb i 64 h))
+    ap (λ (b : Bool). cond b (draw next d i % size) (i - 64)) (lt-ltb i 64 h) ∙ ap (λ (v : ℕ). v % size) (sym q)
 
-pub candidate-number : (next : ℕ → ℕ → ℕ) (size d i : ℕ) → 64 ≤ i → i - 64 ≡ candidate next size d i
-candidate-number next size d i h = sym (ap (λ (b : Bool). cond b (draw next d i % size) (i - 64)) (le-ltb i 64 h))
+-- all of them in turn
+abbrev pub inTurn : (ℕ → ℕ → ℕ) → ℕ → ℕ → List ℕ
+inTurn next size d = tabulated (candidate next size d) 0 (64 + size)
 
--- ---- the search
+-- those after the draws are the bucket numbers
+pub number-at : (next : ℕ → ℕ → ℕ) (size d b : ℕ) → b < size → getD (inTurn next size d) (64 + b) 0 ≡ b
+number-at next size d b h =
+    tabulated-at (candidate next size d) 0 (64 + size) (64 + b) (omega arith)
+    ∙ ap (λ (t : Bool). cond t (draw next d (0 + (64 + b)) % size) (0 + (64 + b) - 64)) (le-ltb (0 + (64 + b)) 64 (omega arith))
+    ∙ omega arith
 
-pub places-of-some : (next : ℕ → ℕ → ℕ) (k size d : ℕ) → 0 < size → placesBy next k size d ≡ firsts k [] (candidates next size d 0 (64 + size))
+numbers-last : (next : ℕ → ℕ → ℕ) (size d : ℕ) → drop 64 (inTurn next size d) ≡ tabulated (λ c. c) 0 size
+numbers-last next size d =
+    ext-getD 0 (drop 64 (inTurn next size d)) (tabulated (λ c. c) 0 size) (long ∙ sym (tabulated-length (λ c. c) 0 size))
+    (λ i h.
+    getD-drop 64 (inTurn next size d) i 0
+    ∙ number-at next size d i (omega (arith, long))
+    ∙ sym (tabulated-at (λ c. c) 0 size i (omega (arith, long)) ∙ omega arith))
+  where
+    long : length (drop 64 (inTurn next size d)) ≡ size
+    long = omega (arith, length-drop 64 (inTurn next size d), tabulated-length (candidate next size d) 0 (64 + size))
+
+candidates-by-rule : (next : ℕ → ℕ → ℕ) (size d i m : ℕ) → candidates next size d i m ≡ tabulated (candidate next size d) i m
+unfolding candidates tabulated
+candidates-by-rule next size d i zero = refl
+candidates-by-rule next size d i (suc m) = ap (λ (cs : List ℕ). candidate next size d i ∷ cs) (candidates-by-rule next size d (suc i) m)
+
+pub places-of-some : (next : ℕ → ℕ → ℕ) (k size d : ℕ) → 0 < size → placesBy next k size d ≡ firsts k [] (inTurn next size d)
 unfolding placesBy
 places-of-some next k size d h =
     ap (λ (b : Bool). cond b [] (firsts k [] (candidates next size d 0 (64 + size)))) (ne-eqb size 0 (λ e. omega arith))
+    ∙ ap (firsts k []) (candidates-by-rule next size d 0 (64 + size))
 
--- what holds where a draw is looked at: the n places found stand first and zeros behind them, and the candidates from i on give the rest
-pub record Searching (cap : ℕ) (next : ℕ → ℕ → ℕ) (k size d : ℕ) (taken : List ℕ) (n e i : ℕ) : Type 0 where
+-- ---- the search
+
+-- what holds before a candidate is looked at: the n places found stand first and zeros behind them, and the candidates left give the rest of all
+pub record Searching (cap k : ℕ) (all taken : List ℕ) (n : ℕ) (left : List ℕ) : Type 0 where
   pub room : length taken ≡ cap
-  pub few : n < k
-  pub within : i ≤ 64 + size
-  pub drawn : e ≡ draw next d i
+  pub fits : k ≤ cap
+  pub few : n ≤ k
   pub padded : pad cap (take n taken) ≡ taken
-  pub rest : firsts k (take n taken) (candidates next size d i (64 + size - i)) ≡ placesBy next k size d
+  pub rest : firsts k (take n taken) left ≡ all
 
--- what holds where a place taken is looked at: the j before it are others
-pub record Passing (taken₀ : List ℕ) (n₀ c : ℕ) (taken : List ℕ) (n j : ℕ) : Type 0 where
-  pub same : taken ≡ taken₀
-  pub count : n ≡ n₀
-  pub passed : j ≤ n
-  pub fresh : elem c (take j taken) ≡ false
-
-pub search-start : (next : ℕ → ℕ → ℕ) (k size d : ℕ) → 0 < size
-    → firsts k [] (candidates next size d 0 (64 + size - 0)) ≡ placesBy next k size d
-search-start next k size d h =
-    ap (λ (m : ℕ). firsts k [] (candidates next size d 0 m)) (sub-zero (64 + size)) ∙ sym (places-of-some next k size d h)
-
-candidates-more : (next : ℕ → ℕ → ℕ) (size d i : ℕ) → i < 64 + size
-    → candidates next size d i (64 + size - i) ≡ candidate next size d i ∷ candidates next size d (i + 1) (64 + size - (i + 1))
-unfolding candidates
-candidates-more next size d i h =
-    ap (candidates next size d i) more
-    ∙ ap (λ (m : ℕ). candidate next size d i ∷ candidates next size d m (64 + size - (i + 1))) (sym (add-one i))
-  where
-    more : 64 + size - i ≡ suc (64 + size - (i + 1))
-    more = omega arith
-
--- there is no candidate left: all places are found
-pub search-spent : (cap : ℕ) (next : ℕ → ℕ → ℕ) (k size d : ℕ) (l : List ℕ) (n e i : ℕ) → Searching cap next k size d l n e i → 64 + size ≤ i
-    → l ≡ pad cap (placesBy next k size d)
-unfolding candidates firsts
-search-spent cap next k size d l n e i s h =
-    sym (s .padded) ∙ ap (pad cap) (ap (λ (m : ℕ). firsts k (take n l) (candidates next size d i m)) none ∙ s .rest)
-  where
-    none : 0 ≡ 64 + size - i
-    none = omega arith
-
-module _ (cap : ℕ) (next : ℕ → ℕ → ℕ) (k size d : ℕ) (l : List ℕ) (n e i : ℕ) (s : Searching cap next k size d l n e i) (fits : k ≤ cap) (h : i < 64 + size) where
-  turn : firsts k (take n l) (candidate next size d i ∷ candidates next size d (i + 1) (64 + size - (i + 1))) ≡ placesBy next k size d
-  turn = ap (firsts k (take n l)) (sym (candidates-more next size d i h)) ∙ s .rest
-
-  turn-skip : elem (candidate next size d i) (take n l) ≡ true
-      → firsts k (take n l) (candidates next size d (i + 1) (64 + size - (i + 1))) ≡ placesBy next k size d
-  turn-skip f = sym (firsts-skip k (candidate next size d i) (take n l) (candidates next size d (i + 1) (64 + size - (i + 1))) f) ∙ turn
-
+module _ {cap k : ℕ} {all l : List ℕ} {n : ℕ} {left : List ℕ} (s : Searching cap k all l n left) where
   long : length (take n l) ≡ n
   long = length-take-le n l (omega (arith, s))
 
-  -- the candidate behind those taken
-  taken-more : take (n + 1) (set l n (candidate next size d i)) ≡ take n l ++ candidate next size d i ∷ []
-  taken-more =
-      ap (λ (m : ℕ). take m (set l n (candidate next size d i))) (add-one n)
-      ∙ take-suc-set l n (candidate next size d i) (omega (arith, s))
+  -- the k-th place is found, or there is no candidate left
+  pub search-full : n ≡ k → l ≡ pad cap all
+  search-full h = sym (s .padded) ∙ ap (pad cap) (sym (firsts-full k (take n l) left (omega (arith, long))) ∙ s .rest)
 
-  padded-more : pad cap (take (n + 1) (set l n (candidate next size d i))) ≡ set l n (candidate next size d i)
-  padded-more =
-      ap (pad cap) taken-more
-      ∙ sym (pad-last cap (candidate next size d i) (take n l) (omega (arith, s, long)))
-      ∙ ap₂ (λ (t : List ℕ) (m : ℕ). set t m (candidate next size d i)) (s .padded) long
+  pub search-spent : left ≡ [] → l ≡ pad cap all
+  unfolding firsts
+  search-spent h = sym (s .padded) ∙ ap (pad cap) (ap (firsts k (take n l)) (sym h) ∙ s .rest)
 
-  turn-take : elem (candidate next size d i) (take n l) ≡ false
-      → firsts k (take (n + 1) (set l n (candidate next size d i))) (candidates next size d (i + 1) (64 + size - (i + 1))) ≡ placesBy next k size d
-  turn-take f =
-      ap (λ (t : List ℕ). firsts k t (candidates next size d (i + 1) (64 + size - (i + 1)))) taken-more
-      ∙ sym (firsts-take k (candidate next size d i) (take n l) (candidates next size d (i + 1) (64 + size - (i + 1))) (omega (arith, s, long)) f)
-      ∙ turn
-
-  -- with the k-th place found
-  pub search-done : elem (candidate next size d i) (take n l) ≡ false → n + 1 ≡ k
-      → set l n (candidate next size d i) ≡ pad cap (placesBy next k size d)
-  search-done f q =
-      sym padded-more
-      ∙ ap (pad cap)
-      (sym (firsts-full k (take (n + 1) (set l n (candidate next size d i))) (candidates next size d (i + 1) (64 + size - (i + 1))) enough)
-      ∙ turn-take f)
-    where
-      enough : k ≤ length (take (n + 1) (set l n (candidate next size d i)))
-      enough = omega (arith, s, q, length-take-le (n + 1) (set l n (candidate next size d i)) (omega (arith, s, length-set l n (candidate next size d i))))
-
-  -- at the next draw
-  module _ (e′ : ℕ) (drew : e′ ≡ next e i) where
-    drawn-more : e′ ≡ draw next d (i + 1)
-    unfolding draw
-    drawn-more = drew ∙ ap (λ (v : ℕ). next v i) (s .drawn) ∙ ap (draw next d) (sym (add-one i))
-
-    pub search-skip : elem (candidate next size d i) (take n l) ≡ true → Searching cap next k size d l n e′ (i + 1)
+  module _ {c : ℕ} {more : List ℕ} (e : left ≡ c ∷ more) where
+    pub search-skip : elem c (take n l) ≡ true → Searching cap k all l n more
     search-skip f = record {
       room = s .room;
+      fits = s .fits;
       few = s .few;
-      within = omega arith;
-      drawn = drawn-more;
       padded = s .padded;
-      rest = turn-skip f;
+      rest = sym (firsts-skip k c (take n l) more f) ∙ ap (firsts k (take n l)) (sym e) ∙ s .rest;
     }
 
-    pub search-take : elem (candidate next size d i) (take n l) ≡ false → (n + 1 ≡ k → ⊥)
-        → Searching cap next k size d (set l n (candidate next size d i)) (n + 1) e′ (i + 1)
-    search-take f more = record {
-      room = length-set l n (candidate next size d i) ∙ s .room;
-      few = omega (arith, s);
-      within = omega arith;
-      drawn = drawn-more;
-      padded = padded-more;
-      rest = turn-take f;
+    pub search-take : elem c (take n l) ≡ false → n < k → Searching cap k all (set l n c) (n + 1) more
+    search-take f h = record {
+      room = length-set l n c ∙ s .room;
+      fits = s .fits;
+      few = omega arith;
+      padded = ap (pad cap) taken
+          ∙ sym (pad-last cap c (take n l) (omega (arith, s, long)))
+          ∙ ap₂ (λ (t : List ℕ) (m : ℕ). set t m c) (s .padded) long;
+      rest = ap (λ (t : List ℕ). firsts k t more) taken
+          ∙ sym (firsts-take k c (take n l) more (omega (arith, long)) f)
+          ∙ ap (firsts k (take n l)) (sym e)
+          ∙ s .rest;
     }
+      where
+        taken : take (n + 1) (set l n c) ≡ take n l ++ c ∷ []
+        taken = ap (λ (m : ℕ). take m (set l n c)) (add-one n) ∙ take-suc-set l n c (omega (arith, s))
 
--- the same test of the same things
-pub same-elem : (c c′ : ℕ) (l l′ : List ℕ) (n n′ : ℕ) {b : Bool} → c ≡ c′ → l ≡ l′ → n ≡ n′ → elem c (take n l) ≡ b → elem c′ (take n′ l′) ≡ b
-same-elem c c′ l l′ n n′ p q r h = cc
+-- ---- the draws
+
+-- what holds before draw i is looked at
+pub record Drawing (next : ℕ → ℕ → ℕ) (k size d : ℕ) (taken : List ℕ) (n e i : ℕ) : Type 0 where
+  pub search : Searching 4 k (placesBy next k size d) taken n (drop i (inTurn next size d))
+  pub short : n < k
+  pub early : i ≤ 64
+  pub drawn : e ≡ draw next d i
+
+-- the first
+pub drawing-start : (next : ℕ → ℕ → ℕ) (k size d : ℕ) → 0 < k → k ≤ 4 → 0 < size → Drawing next k size d (0 ∷ 0 ∷ 0 ∷ 0 ∷ []) 0 d 0
+unfolding draw pad
+drawing-start next k size d h f z = record {
+  search = record { room = refl; fits = f; few = zero-le; padded = refl; rest = sym (places-of-some next k size d z) };
+  short = h;
+  early = zero-le;
+  drawn = refl;
+}
+
+-- after the last, what is missing is made up by bucket numbers
+pub drawing-last : {next : ℕ → ℕ → ℕ} {k size d : ℕ} {l : List ℕ} {n e i : ℕ} → Drawing next k size d l n e i → i ≡ 64
+    → firsts k (take n l) (tabulated (λ c. c) 0 size) ≡ placesBy next k size d
+drawing-last {next} {k} {size} {d} {l} {n} s q =
+    ap (firsts k (take n l)) (sym (ap (λ (m : ℕ). drop m (inTurn next size d)) q ∙ numbers-last next size d)) ∙ s .search .rest
+
+-- a draw that leads to a bucket taken before, or to another
+module _ {next : ℕ → ℕ → ℕ} {k size d : ℕ} {l : List ℕ} {n e i : ℕ} (s : Drawing next k size d l n e i) (h : i < 64) where
+  left : drop i (inTurn next size d) ≡ e % size ∷ drop (i + 1) (inTurn next size d)
+  left =
+      tabulated-rest (candidate next size d) (64 + size) i (omega arith)
+      ∙ ap (λ (c : ℕ). c ∷ drop (i + 1) (inTurn next size d)) (candidate-draw next size d i e h (s .drawn))
+
+  drawn-next : (v : ℕ) → v ≡ next e i → v ≡ draw next d (i + 1)
+  unfolding draw
+  drawn-next v q = q ∙ ap (λ (u : ℕ). next u i) (s .drawn) ∙ ap (draw next d) (sym (add-one i))
+
+  pub drawing-skip : elem (e % size) (take n l) ≡ true → (v : ℕ) → v ≡ next e i → Drawing next k size d l n v (i + 1)
+  drawing-skip f v q = record { search = search-skip (s .search) left f; short = s .short; early = omega arith; drawn = drawn-next v q }
+
+  module _ (f : elem (e % size) (take n l) ≡ false) where
+    more : Searching 4 k (placesBy next k size d) (set l n (e % size)) (n + 1) (drop (i + 1) (inTurn next size d))
+    more = search-take (s .search) left f (s .short)
+
+    pub drawing-take : (n + 1 ≡ k → ⊥) → (v : ℕ) → v ≡ next e i → Drawing next k size d (set l n (e % size)) (n + 1) v (i + 1)
+    drawing-take g v q = record { search = more; short = omega (arith, s); early = omega arith; drawn = drawn-next v q }
+
+    pub drawing-done : n + 1 ≡ k → set l n (e % size) ≡ pad 4 (placesBy next k size d)
+    drawing-done g = search-full more g

@@ -1,14 +1,15 @@
 -- The eight tables: what their entries are, and that a CRC and a draw by them are the CRC. Assumes nothing.
 use mathlib.Core.Path.{_≡_, refl, sym, ap, ap₂, _∙_}
 use mathlib.Core.Bool.{Bool, true, false}
-use mathlib.Core.List.{List, [], _∷_, _++_}
+use mathlib.Core.List.{List, _∷_, _++_}
 use Prim.Native.Nat.{ℕ, zero, suc, _+_, _-_, _*_, _/_, _%_, _^_, _≤_, _<_}
 use native.Mathlib.Nat.{mod-lt, zero-lt-suc, le-of-suc-le-suc}
+use native.Mathlib.Numerals.{add-one}
 use native.Mathlib.Omega.{arith}
 use lib.Bits.{bitXor, xor-zero-r}
-use lib.ListN.{length, getD, set, length-set}
+use lib.ListN.{length, getD, drop, set, length-set}
 use lib.Pow.{high, low}
-use lib.Seq.{ext-getD, getD-set-same, getD-set-other}
+use lib.Seq.{drop-cons, ext-getD, getD-set-same, getD-set-other}
 use lib.Dec.{eqb}
 use borrow.Author.Tests.{eqb-true, eqb-false}
 use Rattle.bucket.specs.Digits.{groups}
@@ -30,6 +31,12 @@ unfolding tabulated
 tabulated-at f i zero j h = absurd (omega arith)
 tabulated-at f i (suc n) zero h = ap f (omega arith)
 tabulated-at f i (suc n) (suc j) h = tabulated-at f (suc i) n j (le-of-suc-le-suc h) ∙ ap f (omega arith)
+
+-- those from the i-th on
+pub tabulated-rest : (f : ℕ → ℕ) (n i : ℕ) → i < n → drop i (tabulated f 0 n) ≡ f i ∷ drop (i + 1) (tabulated f 0 n)
+tabulated-rest f n i h =
+    drop-cons (tabulated f 0 n) i 0 (omega (arith, tabulated-length f 0 n))
+    ∙ ap₂ (λ (v m : ℕ). v ∷ drop m (tabulated f 0 n)) (tabulated-at f 0 n i h ∙ ap f (omega arith)) (sym (add-one i))
 
 -- the first n entries of a list of m go by a rule
 pub record Filled (f : ℕ → ℕ) (m n : ℕ) (t : List ℕ) : Type 0 where

@@ -8,7 +8,7 @@
 --   placeCount size          how many places an element has in a filter of a size
 --
 -- The code draws by lent tables, so its contract is over `nextBy` of those; with the right tables that is `places` (places-by-tables).
--- Laws (proofs/PlaceLaws): places-count, places-distinct, places-below, places-by-tables.
+-- Laws (proofs/PlaceLaws): places-length, places-distinct, places-below, places-by-tables; place-count-some, place-count-most.
 -- Assumes nothing.
 use mathlib.Core.Bool.{_||_, cond}
 use mathlib.Core.List.{List, [], _∷_, _++_}

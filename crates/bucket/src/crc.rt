@@ -53,11 +53,11 @@ pub fn crc_by(tab: &[u32; 2048], x: u64) -> u32
 
 // The draw after d, which was draw i: with the tables of `tables` and i below 256, the CRC-32 of d × 2^32 + i.
 // The bytes between d and i are zero and their entries too, so five lookups do for eight.
-pub fn next_draw(tab: &[u32; 2048], d: u32, i: u64) -> u32
+pub fn next_draw(tab: &[u32; 2048], d: u32, i: u32) -> u32
     ensures { λ r. ⌜ r ≡ nextBy (now (tab .entry)) d i ⌝ }
 {
     let c = looked_up(tab, 4, 4, d as u64, OF_ZERO);
-    looked_up(tab, 0, 1, i, c)
+    looked_up(tab, 0, 1, i as u64, c)
 }
 
 // The n low bytes of x, looked up from a row on.

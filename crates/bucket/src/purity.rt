@@ -39,49 +39,17 @@ pub fn is_one(c: i64) -> bool
     c == -1
 }
 
-// Whether bucket i is one of the places that draw 0 leads to.
-// The first three draws lead to places in any case; what lies behind them matters only if two of them agree, or k is not 3.
+// Whether bucket i is one of the places that draw 0 leads to. Draw 0 leads to one in any case, which spares a search where it is i.
 pub fn is_place(tab: &[u32; 2048], d: u32, i: u32, size: u32, k: usize) -> bool
     ensures { λ r. ⌜ r ≡ elem i (placesBy (nextBy (now (tab .entry))) (min 4 k) size d) ⌝ }
 {
-    if size == 0 {
+    let n = crate::least(crate::least(4, k), size as usize);
+    if n == 0 {
         return false;
     }
-    if 3 <= k {
-        let a = d % size;
-        if a == i {
-            return true;
-        }
-        let e = crate::crc::next_draw(tab, d, 0);
-        let b = e % size;
-        if b == i {
-            return true;
-        }
-        let f = crate::crc::next_draw(tab, e, 1);
-        let c = f % size;
-        if c == i {
-            return true;
-        }
-        if k == 3 {
-            if crate::places::differ(a, b, c) {
-                return false;
-            }
-        }
+    if d % size == i {
+        return true;
     }
-    is_found(tab, d, i, size, k)
-}
-
-fn is_found(tab: &[u32; 2048], d: u32, i: u32, size: u32, k: usize) -> bool
-    ensures { λ r. ⌜ r ≡ elem i (placesBy (nextBy (now (tab .entry))) (min 4 k) size d) ⌝ }
-{
-    let n = crate::least(crate::least(4, k), size as usize);
-    let p = crate::places::others(tab, d, size, k);
-    let mut j: usize = 0;
-    while j < n {
-        if p[j] == i {
-            return true;
-        }
-        j += 1;
-    }
-    false
+    let p = crate::places::places(tab, d, size, k);
+    crate::places::is_taken(&p, n, i)
 }

@@ -1,59 +1,152 @@
--- `bucket::places::places` meets its contract: where three places are asked for and the first three draws lead to different buckets, these are the
--- places; otherwise `others` gives them. Assumes nothing.
-use mathlib.Core.Path.{_≡_, ap, _∙_}
-use Prim.Native.Nat.{ℕ}
+-- `bucket::places::places` meets its contract. The outer loop keeps `Drawing`: the n places found stand first, zeros behind them, and the candidates
+-- from the i-th on give the rest of the places. The inner loop keeps besides that the draw's bucket is none of the first j. Assumes nothing.
+use mathlib.Core.Path.{_≡_, sym, ap, _∙_}
+use mathlib.Core.Logic.{⊎-elim}
+use mathlib.Core.Bool.{false}
+use Prim.Native.Nat.{_-_, _≤_, min}
 use native.Mathlib.Omega.{arith}
-use Rattle.bucket.specs.Crc.{nextBy}
-use Rattle.bucket.specs.Lists.{pad}
-use Rattle.bucket.specs.Places.{placesBy}
-use Rattle.bucket.proofs.StraightLaws.{least-three, three-padded}
 use borrow.Author.Needs.{needs}
+use lib.ListN.{take}
+use Rattle.bucket.specs.Crc.{nextBy}
+use Rattle.bucket.specs.Lists.{pad, elem}
+use Rattle.bucket.proofs.ListLaws.{elem-nil, elem-take, elem-take-more}
+use Rattle.bucket.proofs.SearchLaws.{Drawing, drawing-start, drawing-last, drawing-skip, drawing-take, drawing-done}
+use Rattle.bucket.proofs.PlaceLaws.{places-back}
 use Rattle.bucket.proofs.places.places.Statement.{statement}
 use Rattle.bucket.proofs.places.places.Tie as tie
 
-next-draw-requires : tie.Need-next-draw-requires
-next-draw-requires c κs = search needs
+abbrev Inv-taken : tie.InvT-taken
+Inv-taken tab d size k most taken₀ n₀ e i c j₀ taken n j =
+    Drawing (nextBy tab) (min 4 k) size d taken n e i × (j ≤ n) × (elem c (take j taken) ≡ false)
 
-next-draw-requires-2 : tie.Need-next-draw-requires-2
-next-draw-requires-2 c κs = search needs
+abbrev μ-taken : tie.MeasureT-taken
+μ-taken tab d size k most taken₀ n₀ e i c j₀ taken n j = n - j
 
-rem-a : tie.Need-rem-a
-rem-a c = search needs
+abbrev Inv-draws : tie.InvT-draws
+Inv-draws tab d size k most taken₀ n₀ e₀ i₀ taken n e i = Drawing (nextBy tab) (min 4 k) size d taken n e i
 
-rem-b : tie.Need-rem-b
-rem-b c = search needs
+abbrev μ-draws : tie.MeasureT-draws
+μ-draws tab d size k most taken₀ n₀ e₀ i₀ taken n e i = 64 - i
 
-rem-c : tie.Need-rem-c
+least-requires : tie.Need-least-requires Inv-taken μ-taken Inv-draws μ-draws
+least-requires c κs = search needs
+
+returns : tie.Need-returns Inv-taken μ-taken Inv-draws μ-draws
+unfolding pad
+returns c =
+    let args = c .before .before .args in
+    ap (pad 4) (places-back (nextBy (args .tab .now)) (min 4 (args .k)) (args .size) (args .d) 4 0 (omega arith))
+
+returns-2 : tie.Need-returns-2 Inv-taken μ-taken Inv-draws μ-draws
+unfolding pad
+returns-2 c =
+    let args = c .before .before .before .args in
+    ap (pad 4) (places-back (nextBy (args .tab .now)) (min 4 (args .k)) (args .size) (args .d) 4 0 (omega arith))
+
+draws-holds : tie.Need-draws-holds Inv-taken μ-taken Inv-draws μ-draws
+draws-holds c =
+    let args = c .before .before .before .args in
+    drawing-start (nextBy (args .tab .now)) (min 4 (args .k)) (args .size) (args .d) (omega arith) (omega arith) (omega arith)
+
+slice-aggregate-fill : tie.Need-slice-aggregate-fill Inv-taken μ-taken Inv-draws μ-draws
+slice-aggregate-fill c = sym (c .before .before .draws .inv .search .room)
+
+fill-requires : tie.Need-fill-requires Inv-taken μ-taken Inv-draws μ-draws
+fill-requires c κs = let s = c .before .before .draws .inv .search in (omega arith, omega arith, rw (s .room) (s .padded))
+
+rem-c : tie.Need-rem-c Inv-taken μ-taken Inv-draws μ-draws
 rem-c c = search needs
 
-differ-requires : tie.Need-differ-requires
-differ-requires c κs = search needs
+taken-holds : tie.Need-taken-holds Inv-taken μ-taken Inv-draws μ-draws
+taken-holds c = (c .before .draws .inv, search needs, elem-nil _)
 
-returns : tie.Need-returns
-returns c =
-    let drew = c .before .before in
-    let three = drew .before .before .before in
-    let args = three .before .args in
-    three-padded (nextBy (args .tab .now)) (args .size) (args .d) (drew .before .next-draw .result) (drew .next-draw2 .result) (omega arith)
-    (drew .before .next-draw .ensures) (drew .next-draw2 .ensures) (c .before .differ .ensures (c .if3 .taken))
-    ∙ ap (λ (n : ℕ). pad 4 (placesBy (nextBy (args .tab .now)) n (args .size) (args .d))) (least-three (args .k) (three .if1 .taken))
+mul-taken : tie.Need-mul-taken Inv-taken μ-taken Inv-draws μ-draws
+mul-taken c = search needs
 
-others-requires : tie.Need-others-requires
-others-requires c κs = search needs
+array-write-taken : tie.Need-array-write-taken Inv-taken μ-taken Inv-draws μ-draws
+array-write-taken c = search needs
 
-returns-2 : tie.Need-returns-2
-returns-2 c = search needs
+add-n : tie.Need-add-n Inv-taken μ-taken Inv-draws μ-draws
+add-n c = search needs
+
+mul-if6 : tie.Need-mul-if6 Inv-taken μ-taken Inv-draws μ-draws
+mul-if6 c = search needs
+
+array-read-if6 : tie.Need-array-read-if6 Inv-taken μ-taken Inv-draws μ-draws
+array-read-if6 c = search needs
+
+add-j : tie.Need-add-j Inv-taken μ-taken Inv-draws μ-draws
+add-j c = search needs
+
+taken-less : tie.Need-taken-less Inv-taken μ-taken Inv-draws μ-draws
+taken-less c = search needs
+
+taken-again : tie.Need-taken-again Inv-taken μ-taken Inv-draws μ-draws
+taken-again c =
+    let at = c .before .before .taken in
+    (at .inv .0, search needs, elem-take-more _ (at .taken) (at .j) (omega arith) (at .inv .2) (c .if6 .left))
+
+next-draw-requires : tie.Need-next-draw-requires Inv-taken μ-taken Inv-draws μ-draws
+next-draw-requires c κs = search needs
+
+add-i : tie.Need-add-i Inv-taken μ-taken Inv-draws μ-draws
+add-i c = search needs
+
+draws-less : tie.Need-draws-less Inv-taken μ-taken Inv-draws μ-draws
+draws-less c = search needs
+
+draws-again : tie.Need-draws-again Inv-taken μ-taken Inv-draws μ-draws
+draws-again c =
+    let at = c .before .before .taken in
+    let next = c .next-draw in
+    ⊎-elim
+    (λ w.
+    rw (w .2, w .3)
+    (drawing-take (at .inv .0) (omega arith) (rw (w .0 .taken) at (at .inv .2)) (λ q. omega arith) (next .result) (next .ensures)))
+    (λ w.
+    rw (w .2, w .3)
+    (drawing-skip (at .inv .0) (omega arith) (elem-take _ (at .taken) (at .j) (at .n) (omega arith) (omega arith) (w .1 .taken)) (next .result)
+    (next .ensures)))
+    (c .before .if4 .came)
+
+returns-3 : tie.Need-returns-3 Inv-taken μ-taken Inv-draws μ-draws
+returns-3 c =
+    let s = c .before .before .before .before .draws .inv in
+    let most = c .before .before .before .before .before .before .before .least .ensures in
+    c .before .fill .ensures ∙ rw (s .search .room, most) (ap (pad 4) (drawing-last s (c .before .before .before .if3 .taken)))
+
+returns-4 : tie.Need-returns-4 Inv-taken μ-taken Inv-draws μ-draws
+returns-4 c =
+    let at = c .before .before .taken in
+    drawing-done (at .inv .0) (omega arith) (rw (c .before .if4 .taken) at (at .inv .2)) (omega arith)
 
 pub places-spec : {M : Type 1} → statement M
 places-spec =
     tie.close
     (tie.spec
-    next-draw-requires
-    next-draw-requires-2
-    rem-a
-    rem-b
-    rem-c
-    differ-requires
+    Inv-taken
+    μ-taken
+    Inv-draws
+    μ-draws
+    least-requires
     returns
-    others-requires
-    returns-2)
+    returns-2
+    draws-holds
+    slice-aggregate-fill
+    fill-requires
+    rem-c
+    taken-holds
+    mul-taken
+    array-write-taken
+    add-n
+    mul-if6
+    array-read-if6
+    add-j
+    taken-less
+    taken-again
+    next-draw-requires
+    add-i
+    draws-less
+    draws-again
+    returns-3
+    returns-4)
