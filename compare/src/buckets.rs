@@ -1,105 +1,24 @@
-//! Comparisons of bucket arithmetic: adding, subtracting, zero, and the test of purity.
+//! Comparisons of bucket arithmetic: zero, and the test of purity.
 
-use crate::model::{Bucket, Columns};
+use crate::model::Bucket;
 use crate::random::Random;
-use crate::{lent, library, model, Tally, GUARD};
+use crate::{library, model, Tally};
 
 pub fn compare(tally: &mut Tally) {
-    let add = (model::add_at as Change, library::add_at as Change);
-    changes(tally, "adding", 0xAD, add);
-    let subtract = (model::subtract_at as Change, library::subtract_at as Change);
-    changes(tally, "subtracting", 0x5B, subtract);
     zero(tally);
     pure(tally);
 }
 
-type Change = fn(Columns, usize, Bucket);
-
-/// The three columns with what stands before and behind them.
-#[derive(Clone, Debug, PartialEq)]
-struct Whole {
-    ids: Vec<u64>,
-    hashes: Vec<u32>,
-    counts: Vec<i64>,
-}
-
-impl Whole {
-    fn lent(&mut self) -> Columns<'_> {
-        Columns {
-            ids: lent(&mut self.ids),
-            hashes: lent(&mut self.hashes),
-            counts: lent(&mut self.counts),
-        }
-    }
-}
-
-/// Counts on both sides of each limit, small ones, and any.
+/// Counts beside the bounds of 32 and 64 bits, small ones, and any.
 fn count(random: &mut Random) -> i64 {
-    let limit = i64::try_from(model::COUNT_LIMIT).expect("below 2^63");
-    let near = random.pick(&[
-        limit,
-        limit - 1,
-        limit - 2,
-        limit + 1,
-        limit * 2,
-        i64::MAX,
-        (1 << 32) + 1,
-        (1 << 32) - 1,
-    ]);
     match random.below(8) {
-        0 => near,
-        1 => -near,
-        2 => random.pick(&[0, i64::MIN, i64::MIN + 1]),
-        3 => random.next() as i64,
-        4 => random.any_length() as i64 >> 3,
-        5 => -(random.any_length() as i64 >> 3),
+        0 => random.pick(&[(1 << 32) + 1, (1 << 32) - 1, i64::MAX]),
+        1 => random.pick(&[0, i64::MIN, i64::MIN + 1]),
+        2 => random.next() as i64,
+        3 => random.any_length() as i64 >> 3,
+        4 => -(random.any_length() as i64 >> 3),
         _ => random.below(7) as i64 - 3,
     }
-}
-
-fn changes(
-    tally: &mut Tally,
-    name: &'static str,
-    seed: u64,
-    (by_model, by_library): (Change, Change),
-) {
-    let mut random = tally.subject(name, seed);
-    let mut changed = 0;
-    for _ in 0..40_000 {
-        let len = random.below(12) as usize;
-        let mut lens = [len; 3];
-        if random.once_in(3) {
-            lens = [0; 3].map(|_| random.below(12) as usize);
-        }
-        let mut before = Whole {
-            ids: random.numbers(lens[0] + 2 * GUARD),
-            hashes: random.words(lens[1] + 2 * GUARD),
-            counts: random.signed(lens[2] + 2 * GUARD),
-        };
-        for place in lent(&mut before.counts) {
-            *place = count(&mut random);
-        }
-        let (shortest, longest) = (*lens.iter().min().unwrap(), *lens.iter().max().unwrap());
-        let i = match random.below(16) {
-            0 => random.huge(),
-            1 => shortest,
-            2 => longest + random.below(3) as usize,
-            3 => random.below(longest as u64 + 1) as usize,
-            _ => random.below(shortest.max(1) as u64) as usize,
-        };
-        let by = Bucket {
-            idsum: random.any_length(),
-            hashsum: random.word(),
-            count: count(&mut random),
-        };
-        let (mut model, mut library) = (before.clone(), before.clone());
-        by_model(model.lent(), i, by);
-        by_library(library.lent(), i, by);
-        changed += u64::from(model != before);
-        let call = || format!("{name} at {i:#x} of lengths {lens:x?}: {by:x?} to {before:x?}");
-        tally.same(call, model, library);
-    }
-    assert!((8_000..32_000).contains(&changed), "both kinds are tried");
 }
 
 fn zero(tally: &mut Tally) {

@@ -10,7 +10,7 @@ pub mod filters;
 pub mod messages;
 pub mod session;
 
-use crate::model::{Bucket, Columns};
+use crate::model::Bucket;
 
 // C's `bool` is taken as the byte it is: an answer that is neither 0 nor 1 must show.
 extern "C" {
@@ -45,30 +45,6 @@ extern "C" {
         clen: usize,
         from: usize,
     ) -> u8;
-    fn tandawire_add_at(
-        ids: *mut u64,
-        ids_len: usize,
-        hashes: *mut u32,
-        hashes_len: usize,
-        counts: *mut i64,
-        counts_len: usize,
-        i: usize,
-        idsum: u64,
-        hashsum: u32,
-        count: i64,
-    );
-    fn tandawire_subtract_at(
-        ids: *mut u64,
-        ids_len: usize,
-        hashes: *mut u32,
-        hashes_len: usize,
-        counts: *mut i64,
-        counts_len: usize,
-        i: usize,
-        idsum: u64,
-        hashsum: u32,
-        count: i64,
-    );
     fn tandawire_is_zero(idsum: u64, hashsum: u32, count: i64) -> u8;
     fn tandawire_looks_pure(
         idsum: u64,
@@ -149,40 +125,6 @@ pub fn spare_is_zero(s: &[u8], at: usize, n: usize, w: u32) -> bool {
 pub fn unpack(s: &[u8], at: usize, n: usize, w: u32, counts: &mut [i64], from: usize) -> bool {
     let (lent, clen) = (counts.as_mut_ptr(), counts.len());
     yes(unsafe { tandawire_unpack(s.as_ptr(), s.len(), at, n, w, lent, clen, from) })
-}
-
-pub fn add_at(columns: Columns, i: usize, by: Bucket) {
-    unsafe {
-        tandawire_add_at(
-            columns.ids.as_mut_ptr(),
-            columns.ids.len(),
-            columns.hashes.as_mut_ptr(),
-            columns.hashes.len(),
-            columns.counts.as_mut_ptr(),
-            columns.counts.len(),
-            i,
-            by.idsum,
-            by.hashsum,
-            by.count,
-        )
-    }
-}
-
-pub fn subtract_at(columns: Columns, i: usize, by: Bucket) {
-    unsafe {
-        tandawire_subtract_at(
-            columns.ids.as_mut_ptr(),
-            columns.ids.len(),
-            columns.hashes.as_mut_ptr(),
-            columns.hashes.len(),
-            columns.counts.as_mut_ptr(),
-            columns.counts.len(),
-            i,
-            by.idsum,
-            by.hashsum,
-            by.count,
-        )
-    }
 }
 
 pub fn is_zero(bucket: Bucket) -> bool {

@@ -13,9 +13,6 @@ pub const MOST_PLACES: usize = 4;
 /// Longer lists of counters are not packed or read.
 pub const MOST_COUNTERS: usize = 65536;
 
-/// Counts are added only where both stand strictly between minus this and this.
-pub const COUNT_LIMIT: i128 = 1 << 61;
-
 /// CRC-32 by its definition: the rest of a division of polynomials over bits.
 pub fn crc_bytes(bytes: &[u8]) -> u32 {
     // Coefficients, highest power first: each byte goes in lowest bit first.
@@ -244,38 +241,12 @@ pub struct Columns<'a> {
     pub counts: &'a mut [i64],
 }
 
-/// One bucket, or what is added to one.
+/// One bucket.
 #[derive(Clone, Copy, Debug)]
 pub struct Bucket {
     pub idsum: u64,
     pub hashsum: u32,
     pub count: i64,
-}
-
-fn count_is_good(count: i64) -> bool {
-    -COUNT_LIMIT < i128::from(count) && i128::from(count) < COUNT_LIMIT
-}
-
-/// XORs the sums and adds the count times the sign.
-fn change_at(columns: Columns, i: usize, by: Bucket, sign: i128) {
-    if i >= columns.ids.len() || i >= columns.hashes.len() || i >= columns.counts.len() {
-        return;
-    }
-    if !count_is_good(columns.counts[i]) || !count_is_good(by.count) {
-        return;
-    }
-    let count = i128::from(columns.counts[i]) + sign * i128::from(by.count);
-    columns.ids[i] ^= by.idsum;
-    columns.hashes[i] ^= by.hashsum;
-    columns.counts[i] = i64::try_from(count).expect("below 2^62");
-}
-
-pub fn add_at(columns: Columns, i: usize, by: Bucket) {
-    change_at(columns, i, by, 1);
-}
-
-pub fn subtract_at(columns: Columns, i: usize, by: Bucket) {
-    change_at(columns, i, by, -1);
 }
 
 pub fn is_zero(bucket: Bucket) -> bool {

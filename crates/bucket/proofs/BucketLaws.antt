@@ -5,7 +5,7 @@ use Prim.Native.Nat.{ℕ, zero, suc}
 use borrow.Author.Tests.{eqb-true}
 use lib.Bits.{xor-comm, xor-self, xor-zero-l}
 use lib.Dec.{eqb}
-use lib.IntN.{ℤ, pos, negsuc, negℤ-negℤ, negℤ-+ℤ, +ℤ-assoc, +ℤ-comm, +ℤ-idl, +ℤ-invl}
+use lib.IntN.{ℤ, pos, negsuc, negℤ-negℤ, +ℤ-assoc, +ℤ-comm, +ℤ-idl, +ℤ-invl}
 use Rattle.bucket.specs.Bucket.{Bucket, bucket, _⊕_, neg, 𝟎, isZeroℤ, isZero}
 use Rattle.bucket.proofs.XorLaws.{xor-assoc}
 
@@ -36,10 +36,6 @@ pub neg-neg : (a : Bucket) → neg (neg a) ≡ a
 unfolding neg
 neg-neg a = bucket-same refl refl (negℤ-negℤ (a .count))
 
-pub neg-⊕ : (a b : Bucket) → neg (a ⊕ b) ≡ (neg a) ⊕ (neg b)
-unfolding _⊕_ neg
-neg-⊕ a b = bucket-same refl refl (negℤ-+ℤ (a .count) (b .count))
-
 pub neg-𝟎 : neg 𝟎 ≡ 𝟎
 unfolding 𝟎 neg
 neg-𝟎 = refl
@@ -54,9 +50,6 @@ pub ⊕-left-comm : (a b c : Bucket) → a ⊕ (b ⊕ c) ≡ b ⊕ (a ⊕ c)
 
 pub neg-cancel : (a b : Bucket) → (neg a) ⊕ (a ⊕ b) ≡ b
 neg-cancel a b = sym (⊕-assoc (neg a) a b) ∙ ap (λ (x : Bucket). x ⊕ b) (⊕-invl a) ∙ ⊕-idl b
-
-pub ⊕-neg-cancel : (a b : Bucket) → a ⊕ ((neg a) ⊕ b) ≡ b
-⊕-neg-cancel a b = ⊕-left-comm a (neg a) b ∙ neg-cancel a b
 
 pub neg-then : (a b : Bucket) → (a ⊕ neg b) ⊕ b ≡ a
 neg-then a b = ⊕-assoc a (neg b) b ∙ ap (λ (x : Bucket). a ⊕ x) (⊕-invl b) ∙ ⊕-idr a

@@ -1,29 +1,24 @@
 -- Counts below 2^61 either way: their sums and negations are exact on 64 bits. Assumes nothing.
-use mathlib.Core.Path.{_≡_, refl, sym, _∙_}
-use mathlib.Core.Bool.{Bool, true, false, _&&_, cond, and-true}
+use mathlib.Core.Path.{_≡_, refl, _∙_}
+use mathlib.Core.Bool.{Bool, true, false, cond}
 use Prim.Native.Nat.{ℕ, zero, suc, _+_, _-_, _^_, _≤_, _<_}
 use native.Mathlib.Omega.{arith}
 use borrow.Author.Needs.{sfits-of}
 use borrow.Author.Tests.{ltb-true}
-use lib.Dec.{ltb, leb·suc-suc}
+use lib.Dec.{ltb}
 use lib.IntN.{ℤ, pos, negsuc, negℤ, subℕ, _+ℤ_, _-ℤ_, +ℤ-idl}
-use lib.Signed.{mag, ltZ}
+use lib.Signed.{mag}
 use mir.Syntax.{w64}
 use mir.Val.{SFits, toZ, ofZ}
 use mir.ValLaws.{toZ-ofZ}
 use Rattle.bucket.specs.Columns.{isSmall}
 
--- the two comparisons that the code makes
-pub small-between : (z : ℤ) → (ltZ (negsuc 2305843009213693951) z && ltZ z (pos 2305843009213693952)) ≡ isSmall z
-small-between (pos n) = refl
-small-between (negsuc n) = and-true _ ∙ sym (leb·suc-suc (suc n) 2305843009213693951)
-
-pub small-neg : (z : ℤ) → isSmall (negℤ z) ≡ isSmall z
+small-neg : (z : ℤ) → isSmall (negℤ z) ≡ isSmall z
 small-neg (pos zero) = refl
 small-neg (pos (suc n)) = refl
 small-neg (negsuc n) = refl
 
-pub small-mag : (z : ℤ) → isSmall z ≡ true → mag z < 2 ^ 61
+small-mag : (z : ℤ) → isSmall z ≡ true → mag z < 2 ^ 61
 small-mag (pos n) e = ltb-true n (2 ^ 61) e
 small-mag (negsuc n) e = let h = ltb-true (suc n) (2 ^ 61) e in omega arith
 

@@ -3,7 +3,7 @@ use mathlib.Core.Path.{_≡_, refl, sym, ap, ap₂, _∙_}
 use Prim.Native.Nat.{ℕ, zero, suc, _+_, _*_, _/_, _%_, _<_}
 use native.Mathlib.Omega.{arith}
 use lib.Arith.{bin-ind}
-use lib.Bits.{bitXor, differ, xor-step, xor-shr, xor-mod, xor-comm, xor-self}
+use lib.Bits.{bitXor, differ, xor-step, xor-shr, xor-mod, xor-comm}
 
 data Bit : ℕ → Type 0 where
   b0 : Bit zero
@@ -41,6 +41,3 @@ xor-swap a b c = sym (xor-assoc a b c) ∙ ap (λ (x : ℕ). bitXor x c) (xor-co
 
 pub xor-cross : (a b c d : ℕ) → bitXor (bitXor a b) (bitXor c d) ≡ bitXor (bitXor a c) (bitXor b d)
 xor-cross a b c d = xor-assoc a b (bitXor c d) ∙ ap (bitXor a) (xor-swap b c d) ∙ sym (xor-assoc a c (bitXor b d))
-
-pub xor-cancel : (a b : ℕ) → bitXor a (bitXor a b) ≡ b
-xor-cancel a b = sym (xor-assoc a a b) ∙ ap (λ (x : ℕ). bitXor x b) (xor-self a)

@@ -4,19 +4,17 @@
 --   view c i            bucket i; past the end of a column its part is zero
 --   place c i b         the columns with bucket i replaced by b
 --   isOpen c i d        bucket i is inside all three columns, and its count and d are below 2^61 either way
---   added c i b         bucket i plus b where it is open to b's count, and otherwise the columns unchanged
---   subtracted c i b    the same with bucket i minus b
 --
 -- Counts are lent as signed numbers of 64 bits: the bound keeps every sum exact. A filter's counts stay far below it.
--- Laws (proofs/ColumnLaws): view-added, view-subtracted, added-lengths.
+-- Laws (proofs/ColumnLaws): is-open-inside, is-open-small; place-same, place-other, place-lengths.
 -- Assumes nothing.
-use mathlib.Core.Bool.{Bool, _&&_, cond}
+use mathlib.Core.Bool.{Bool, _&&_}
 use mathlib.Core.List.{List}
 use Prim.Native.Nat.{ℕ, suc, _^_}
 use lib.Dec.{ltb}
 use lib.IntN.{ℤ, pos, negsuc}
 use lib.ListN.{length, getD, set}
-use Rattle.bucket.specs.Bucket.{Bucket, bucket, _⊕_, _⊖_}
+use Rattle.bucket.specs.Bucket.{Bucket, bucket}
 
 pub record Columns : Type 0 where
   pub idsums : List ℕ
@@ -40,9 +38,3 @@ unfoldable pub isOpen : Columns → ℕ → ℤ → Bool
 isOpen c i d =
     ltb i (length (c .idsums))
     && (ltb i (length (c .hashsums)) && (ltb i (length (c .counts)) && (isSmall (getD (c .counts) i (pos 0)) && isSmall d)))
-
-unfoldable pub added : Columns → ℕ → Bucket → Columns
-added c i b = cond (isOpen c i (b .count)) (place c i (view c i ⊕ b)) c
-
-unfoldable pub subtracted : Columns → ℕ → Bucket → Columns
-subtracted c i b = cond (isOpen c i (b .count)) (place c i (view c i ⊖ b)) c
