@@ -1,11 +1,11 @@
 -- The purity test: a count's test by its bits, the test by the tables, and what passes its first two conditions. Assumes nothing.
 use mathlib.Core.Path.{_≡_, refl, sym, ap, ap₂, _∙_}
-use mathlib.Core.Bool.{Bool, true, false, _&&_}
+use mathlib.Core.Bool.{Bool, true, false, _&&_, false≢true}
 use Prim.Native.Nat.{ℕ, zero, suc, _^_, _<_}
 use native.Mathlib.Omega.{arith}
 use lib.Bits.{bitXor}
 use lib.Dec.{eqb}
-use lib.IntN.{ℤ, pos, negsuc}
+use lib.IntN.{ℤ, pos, negsuc, negℤ, _+ℤ_}
 use lib.Signed.{mag}
 use mir.Syntax.{w64}
 use mir.Val.{ofZ, hbits}
@@ -13,7 +13,7 @@ use borrow.Author.Tests.{eq-eqb, ne-eqb}
 use Rattle.bucket.specs.Crc.{crcOf, crcTables, crcBy, nextBy}
 use Rattle.bucket.specs.Lists.{elem}
 use Rattle.bucket.specs.Places.{placesBy, places}
-use Rattle.bucket.specs.Bucket.{Bucket, bucket, isOne, looksPureBy, looksPure}
+use Rattle.bucket.specs.Bucket.{Bucket, bucket, _⊕_, neg, _⊖_, isOne, looksPureBy, looksPure}
 use Rattle.bucket.proofs.CrcLaws.{crc-xor3}
 use Rattle.bucket.proofs.TableLaws.{crc-by-tables}
 use Rattle.bucket.proofs.PlaceLaws.{places-by-tables}
@@ -63,11 +63,18 @@ pure-by-tables k size i b =
 
 -- ---- why the third condition is there
 
--- two elements of one side and one of the other in one bucket pass the first two conditions: only the place tells
-pub three-look-pure : (k size i a b c : ℕ)
-    → looksPure k size i (bucket (bitXor a (bitXor b c)) (bitXor (crcOf a) (bitXor (crcOf b) (crcOf c))) (pos 1))
+-- two elements of one side and one of the other in one bucket pass the first two conditions, on whichever side the two are: only the place tells
+pub three-look-pure : (k size i a b c : ℕ) (side : ℤ) → isOne side ≡ true
+    → looksPure k size i (bucket a (crcOf a) side ⊕ (bucket b (crcOf b) side ⊖ bucket c (crcOf c) side))
     ≡ elem i (places k size (crcOf (bitXor a (bitXor b c))))
-unfolding looksPureBy
-three-look-pure k size i a b c =
-    ap (λ (t : Bool). t && elem i (places k size (crcOf (bitXor a (bitXor b c)))))
+unfolding looksPureBy _⊕_ neg
+three-look-pure k size i a b c side h =
+    ap₂ (λ (s t : Bool). s && (t && elem i (places k size (crcOf (bitXor a (bitXor b c)))))) (one side h)
     (eq-eqb (bitXor (crcOf a) (bitXor (crcOf b) (crcOf c))) (crcOf (bitXor a (bitXor b c))) (sym (crc-xor3 a b c)))
+  where
+    one : (z : ℤ) → isOne z ≡ true → isOne (z +ℤ (z +ℤ negℤ z)) ≡ true
+    one (pos zero) e = e
+    one (pos (suc zero)) e = refl
+    one (pos (suc (suc n))) e = absurd (false≢true e)
+    one (negsuc zero) e = refl
+    one (negsuc (suc n)) e = absurd (false≢true e)
