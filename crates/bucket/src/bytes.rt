@@ -38,6 +38,13 @@ pub fn put_number(s: &mut [u8], at: usize, k: usize, x: u64)
     put_groups(s, at, k, x);
 }
 
+// A byte as a number: a function, so that callers owe only the index, and know the bound.
+pub fn wide(x: u8) -> u64
+    ensures { λ r. ⌜ (r ≡ x) × (r < 256) ⌝ }
+{
+    x as u64
+}
+
 // The number in k bytes that are there.
 fn joined_at(s: &[u8], at: usize, k: usize) -> u64
     requires { ⌜ (at + k ≤ length (now s)) × (k ≤ 8) ⌝ }
@@ -61,11 +68,4 @@ fn put_groups(s: &mut [u8], at: usize, k: usize, x: u64)
         s[at + j] = ((x >> (8 * (k - 1 - j))) % 256) as u8;
         j += 1;
     }
-}
-
-// A byte as a number: a function, so that callers owe only the index.
-pub fn wide(x: u8) -> u64
-    ensures { λ r. ⌜ (r ≡ x) × (r < 256) ⌝ }
-{
-    x as u64
 }

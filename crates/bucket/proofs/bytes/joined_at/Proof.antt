@@ -40,7 +40,7 @@ add-v : tie.Need-add-v Inv-loop μ-loop
 add-v c =
     let a = c .before .before .before .before .before .args in
     let at = c .before .before .before .loop in
-    omega (arith, c .before .shared-slice-known2 .given (a .at + at .j), number-lt (a .at) (a .s .now) (at .j) (omega arith), pow-mono {i = 8 * at .j} {j = 56} (omega arith))
+    omega (arith, number-lt (a .at) (a .s .now) (at .j) (omega arith), pow-mono {i = 8 * at .j} {j = 56} (omega arith))
 
 add-j : tie.Need-add-j Inv-loop μ-loop
 add-j c = search needs
@@ -54,7 +54,7 @@ loop-again c =
     let at = c .before .before .before .loop in (
       omega arith,
       ap₂ (λ (v b : ℕ). v * 256 + b) (at .inv .1) (c .wide .ensures .0)
-          ∙ sym (number-suc (a .at) (a .s .now) (at .j) (omega arith) (c .before .shared-slice-known2 .given (a .at + at .j) .fits)),
+          ∙ sym (number-suc (a .at) (a .s .now) (at .j) (omega arith) (omega arith)),
     )
 
 returns : tie.Need-returns Inv-loop μ-loop

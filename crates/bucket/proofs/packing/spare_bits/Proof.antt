@@ -75,7 +75,7 @@ returns c =
     let a = s .args in
     rw (c .before .wide .ensures .0, c .two-to .ensures)
     (spare-read (a .w) (a .n) (a .at) (a .s .now) (takes-room (a .w) (a .n) (a .at) (length (a .s .now)) (s .pre .0)) (s .pre .1)
-    (c .before .before .shared-slice-known2 .given (a .at + (a .w * a .n + 7) / 8 - 1) .fits))
+    (omega arith))
 
 pub spare-bits-spec : {M : Type 1} → statement M
 spare-bits-spec =
