@@ -14,7 +14,7 @@ use Rattle.bucket.specs.Lists.{part}
 use Rattle.bucket.proofs.TestLaws.{cond-kept, cond-made}
 use Rattle.filter.specs.declared.answers.Verdict.{Verdict}
 use Rattle.filter.specs.declared.answers.Verdict.the-variants.{Complete, Stuck, False}
-use Rattle.filter.specs.declared.answers.Answer.{Answer}
+use Rattle.filter.specs.declared.answers.ReadAnswer.{ReadAnswer}
 use Rattle.filter.specs.Answers.{refusalNumber}
 use Rattle.filter.specs.Filter.{filterRule}
 use Rattle.filter.specs.Peeling.{Outcome}
@@ -92,7 +92,7 @@ unfolding result
 few-listed size a b = few-read size a (received size b) (replicate 512 0) (replicate 512 0)
 
 -- the two calls, one behind the other
-pub read-result : (size k : ℕ) (a b : List ℕ) (w : Answer) (c c′ : Columns) (o th : List ℕ)
+pub read-result : (size k : ℕ) (a b : List ℕ) (w : ReadAnswer) (c c′ : Columns) (o th : List ℕ)
     → built k c ≡ buildCall firstEight size 0 b blank
     → answered w c′ o th ≡ readCall firstEight size 0 a c (replicate 512 0) (replicate 512 0)
     → answered w c′ o th ≡ result size a b
@@ -101,12 +101,12 @@ read-result size k a b w c c′ o th made e =
     e ∙ ap (λ (q : Columns). readCall firstEight size 0 a q (replicate 512 0) (replicate 512 0)) (ap (λ q. q .columns) made)
 
 -- what a reading prints
-pub shown-refused : (size n : ℕ) {w : Answer} {c : Columns} {o th : List ℕ} {r : Read} → answered w c o th ≡ r → n ≡ w .refusal → (n ≡ 0 → ⊥) → refusal n ≡ shown size r
+pub shown-refused : (size n : ℕ) {w : ReadAnswer} {c : Columns} {o th : List ℕ} {r : Read} → answered w c o th ≡ r → n ≡ w .refusal → (n ≡ 0 → ⊥) → refusal n ≡ shown size r
 unfolding shown
 shown-refused size n {w} e f h =
     ap refusal f ∙ cond-kept _ _ (ne-eqb (w .refusal) 0 (λ z. h (f ∙ z))) ∙ ap (shown size) e
 
-pub shown-listed : (size n k p q : ℕ) {w : Answer} {c : Columns} {o th : List ℕ} {r : Read} → answered w c o th ≡ r
+pub shown-listed : (size n k p q : ℕ) {w : ReadAnswer} {c : Columns} {o th : List ℕ} {r : Read} → answered w c o th ≡ r
     → n ≡ w .refusal → n ≡ 0 → k ≡ w .complete → p ≡ w .ours → q ≡ w .theirs → listing size k (take p o) (take q th) ≡ shown size r
 unfolding shown
 shown-listed size n k p q {w} {o = o} {th = th} e f z ek ep eq =

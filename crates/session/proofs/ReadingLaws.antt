@@ -16,7 +16,7 @@ use Rattle.filter.specs.declared.answers.Verdict.{Verdict}
 use Rattle.filter.specs.declared.answers.Verdict.the-variants.{Complete, Stuck, False}
 use Rattle.filter.specs.Calls.{inRange, areCounts, hasRoom, readRefusal, Read, readFalse, readWith, readCall}
 use Rattle.filter.specs.Filter.{Item, ours, theirs, oursOf, theirsOf, Rule, filterRule, difference}
-use Rattle.filter.specs.Peeling.{Outcome, reading, fits, verdict}
+use Rattle.filter.specs.Peeling.{Outcome, reading, agrees, verdict}
 use Rattle.filter.specs.Table.{hashesOf, isTable}
 use Rattle.filter.proofs.GrantedLaws.{granted-read, listed-back}
 use Rattle.filter.proofs.SelectLaws.{elem-reverse, distinct-reverse}
@@ -35,20 +35,20 @@ pub record ReadLaw (ids : List ℕ) (r : Read) : Type 0 where
 
 -- ---- "an ID listed as ours is not in our table or one listed as theirs is"
 
-fits-ours : (t : List ℕ) (l : List Item) → fits t l ≡ true → oursOf l ⊆ t
-unfolding fits oursOf
-fits-ours t [] f x e = absurd (not-in-nil x e)
-fits-ours t (ours a ∷ l) f x e =
-    elem-cases (λ (z : ℕ). z ∈ t) x a (oursOf l) e (and-l (elem a t) (fits t l) f) (fits-ours t l (and-r (elem a t) (fits t l) f) x)
-fits-ours t (theirs a ∷ l) f x e = fits-ours t l (and-r (not (elem a t)) (fits t l) f) x e
+agrees-ours : (t : List ℕ) (l : List Item) → agrees t l ≡ true → oursOf l ⊆ t
+unfolding agrees oursOf
+agrees-ours t [] f x e = absurd (not-in-nil x e)
+agrees-ours t (ours a ∷ l) f x e =
+    elem-cases (λ (z : ℕ). z ∈ t) x a (oursOf l) e (and-l (elem a t) (agrees t l) f) (agrees-ours t l (and-r (elem a t) (agrees t l) f) x)
+agrees-ours t (theirs a ∷ l) f x e = agrees-ours t l (and-r (not (elem a t)) (agrees t l) f) x e
 
-fits-theirs : (t : List ℕ) (l : List Item) → fits t l ≡ true → Apart (theirsOf l) t
-unfolding fits theirsOf
-fits-theirs t [] f x e = absurd (not-in-nil x e)
-fits-theirs t (ours a ∷ l) f x e = fits-theirs t l (and-r (elem a t) (fits t l) f) x e
-fits-theirs t (theirs a ∷ l) f x e =
-    elem-cases (λ (z : ℕ). z ∈ t → ⊥) x a (theirsOf l) e (λ k. clash k (not-true (elem a t) (and-l (not (elem a t)) (fits t l) f)))
-    (fits-theirs t l (and-r (not (elem a t)) (fits t l) f) x)
+agrees-theirs : (t : List ℕ) (l : List Item) → agrees t l ≡ true → Apart (theirsOf l) t
+unfolding agrees theirsOf
+agrees-theirs t [] f x e = absurd (not-in-nil x e)
+agrees-theirs t (ours a ∷ l) f x e = agrees-theirs t l (and-r (elem a t) (agrees t l) f) x e
+agrees-theirs t (theirs a ∷ l) f x e =
+    elem-cases (λ (z : ℕ). z ∈ t → ⊥) x a (theirsOf l) e (λ k. clash k (not-true (elem a t) (and-l (not (elem a t)) (agrees t l) f)))
+    (agrees-theirs t l (and-r (not (elem a t)) (agrees t l) f) x)
 
 -- ---- a reading by its verdict
 
@@ -74,19 +74,19 @@ module _ (derive : ℕ → ℕ) (t : List ℕ) (size salt : ℕ) (c : Columns) (
       once : Distinct (Rattle.filter.specs.Filter.ids (r .listed))
       once = reading-distinct R (difference R (idsOf derive t) (view c))
 
-      listed : fits (idsOf derive t) (r .listed) ≡ true → ReadLaw (idsOf derive t) (readWith Complete size r c o th)
+      listed : agrees (idsOf derive t) (r .listed) ≡ true → ReadLaw (idsOf derive t) (readWith Complete size r c o th)
       listed f =
           let a : oursIn (readWith Complete size r c o th) ≡ reverse (oursOf (r .listed)) = listed-back size (oursOf (r .listed)) o in
           let b : theirsIn (readWith Complete size r c o th) ≡ reverse (theirsOf (r .listed)) = listed-back size (theirsOf (r .listed)) th in
           record {
-            oursHeld = λ x e. fits-ours (idsOf derive t) (r .listed) f x (sym (elem-reverse x (oursOf (r .listed))) ∙ subst (λ (l : List ℕ). x ∈ l) a e);
+            oursHeld = λ x e. agrees-ours (idsOf derive t) (r .listed) f x (sym (elem-reverse x (oursOf (r .listed))) ∙ subst (λ (l : List ℕ). x ∈ l) a e);
             oursOnce = subst Distinct (sym a) (distinct-reverse (oursOf (r .listed)) (distinct-ours (r .listed) once));
-            theirsNew = λ x e. fits-theirs (idsOf derive t) (r .listed) f x (sym (elem-reverse x (theirsOf (r .listed))) ∙ subst (λ (l : List ℕ). x ∈ l) b e);
+            theirsNew = λ x e. agrees-theirs (idsOf derive t) (r .listed) f x (sym (elem-reverse x (theirsOf (r .listed))) ∙ subst (λ (l : List ℕ). x ∈ l) b e);
             theirsOnce = subst Distinct (sym b) (distinct-reverse (theirsOf (r .listed)) (distinct-theirs (r .listed) once));
           }
 
       go : (v : Verdict) → verdict R (idsOf derive t) r ≡ v → isComplete (readWith v size r c o th) ≡ true → ReadLaw (idsOf derive t) (readWith v size r c o th)
-      go Complete e k = listed (unfold verdict in verdict-complete (r .fine) _ (fits (idsOf derive t) (r .listed)) e .2)
+      go Complete e k = listed (unfold verdict in verdict-complete (r .fine) _ (agrees (idsOf derive t) (r .listed)) e .2)
       go Stuck e k = absurd (false≢true k)
       go False e k = absurd (false≢true k)
 

@@ -9,7 +9,7 @@ use lib.ListN.{length}
 use Rattle.bucket.specs.Digits.{joined, packed, Below}
 use Rattle.bucket.specs.Lists.{over}
 use Rattle.bucket.specs.Columns.{Columns}
-use Rattle.filter.specs.declared.answers.Answer.{Answer as ReadAnswer}
+use Rattle.filter.specs.declared.answers.ReadAnswer.{ReadAnswer}
 use Rattle.filter.specs.declared.answers.Refusal.the-variants.{None}
 use Rattle.filter.specs.Calls.{inRange, hasRoom, readRefusal}
 use Rattle.filter.specs.Table.{firstEight, idsOf, isTable}

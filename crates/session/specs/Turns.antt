@@ -10,7 +10,7 @@ use Rattle.bucket.specs.Bucket.{𝟎}
 use Rattle.bucket.specs.Columns.{Columns}
 use Rattle.bucket.specs.Digits.{joined, packed}
 use Rattle.bucket.specs.Lists.{over, part}
-use Rattle.filter.specs.declared.answers.Answer.{Answer as ReadAnswer}
+use Rattle.filter.specs.declared.answers.ReadAnswer.{ReadAnswer}
 use Rattle.filter.specs.declared.answers.Refusal.the-variants.{Malformed, OutOfTurn, Breach, Checksum, Swaps, Limit}
 use Rattle.filter.specs.Answers.{refusalNumber}
 use Rattle.filter.specs.Calls.{Read, unread, filled, listedInto}

@@ -3,7 +3,7 @@ ghost use mathlib.Core.Path.{_≡_};
 ghost use Rattle.bucket.specs.Columns.{columns};
 ghost use Rattle.filter.specs.Table.{firstEight};
 ghost use Rattle.filter.specs.Calls.{built, buildCall, answered, readCall};
-use filter::answers::Answer;
+use filter::answers::ReadAnswer;
 
 // The filter made by the rules from a table, in the first size places of three columns; answers the refusal number, 0 for none.
 #[no_mangle]
@@ -32,7 +32,7 @@ pub extern "C" fn tandawire_read(
     theirs: &mut [u64],
     size: u32,
     salt: u32,
-) -> Answer
+) -> ReadAnswer
     ensures { λ r. ⌜ answered r (columns (now (ids .exit)) (now (hashes .exit)) (now (counts .exit))) (now (ours .exit)) (now (theirs .exit))
         ≡ readCall firstEight size salt (now (table .entry)) (columns (now (ids .entry)) (now (hashes .entry)) (now (counts .entry))) (now (ours .entry)) (now (theirs .entry)) ⌝ }
 {

@@ -5,7 +5,7 @@ use Prim.Native.Nat.{_+_, _≤_}
 use native.Mathlib.Omega.{arith}
 use borrow.Author.Needs.{needs}
 use Rattle.bucket.specs.Columns.{columns}
-use Rattle.filter.specs.declared.answers.Answer.{Answer}
+use Rattle.filter.specs.declared.answers.ReadAnswer.{ReadAnswer}
 use Rattle.filter.specs.Answers.{refusalNumber, answerOf}
 use Rattle.filter.specs.Calls.{Read, answered}
 use Rattle.differ.specs.Report.{result}
@@ -68,7 +68,7 @@ same-length c = search needs
 returns : tie.Need-returns
 returns c =
     let n = c .before .before .before .before .before .before .numbers in
-    writes-as (shown-refused (c .before .before .before .before .before .before .before .before .before .before .before .before .before .before .before .before .before .before .before .before .before .before .before .before .before .before .before .before .args .size) (n .result .refusal) (outcome (c .before .before .before .before .before .before .before .before .before .before .before .before)) (ap (λ (q : Answer). q .refusal) (n .ensures)) (c .before .before .before .before .if1 .taken)) (c .before .before .put-refusal .ensures)
+    writes-as (shown-refused (c .before .before .before .before .before .before .before .before .before .before .before .before .before .before .before .before .before .before .before .before .before .before .before .before .before .before .before .before .args .size) (n .result .refusal) (outcome (c .before .before .before .before .before .before .before .before .before .before .before .before)) (ap (λ (q : ReadAnswer). q .refusal) (n .ensures)) (c .before .before .before .before .if1 .taken)) (c .before .before .put-refusal .ensures)
 
 slice-aggregate-put-listing : tie.Need-slice-aggregate-put-listing
 slice-aggregate-put-listing c = search needs
@@ -82,8 +82,8 @@ put-listing-requires c κs =
     let r = c .before .before .before .before .before .before .before .before .before .before .before .read in
     let s = c .before .before .before .before .before .before .before .before .before .before .before .before .before .before .before .before .before .before .before .before .before .before .before .before .before .before .before in
     let given = outcome (c .before .before .before .before .before .before .before .before .before .before .before) in
-    let ours = ap (λ (q : Answer). q .ours) (n .ensures) ∙ ap (λ (q : Read). q .answer .ours) given in
-    let theirs = ap (λ (q : Answer). q .theirs) (n .ensures) ∙ ap (λ (q : Read). q .answer .theirs) given in
+    let ours = ap (λ (q : ReadAnswer). q .ours) (n .ensures) ∙ ap (λ (q : Read). q .answer .ours) given in
+    let theirs = ap (λ (q : ReadAnswer). q .theirs) (n .ensures) ∙ ap (λ (q : Read). q .answer .theirs) given in
     let few : n .result .ours + n .result .theirs ≤ 512 = omega (arith, few-listed (s .args .size) (s .args .a .now) (s .args .b .now), ours, theirs) in (
       omega (arith, few, r .kept .1 .1 .1 .1 .0),
       omega (arith, few, r .kept .1 .1 .1 .1 .1 .0),
@@ -101,7 +101,7 @@ returns-2 c =
     let n = c .before .before .before .before .before .before .before .before .numbers in
     writes-as
     (shown-listed (c .before .before .before .before .before .before .before .before .before .before .before .before .before .before .before .before .before .before .before .before .before .before .before .before .before .before .before .before .before .before .args .size) (n .result .refusal) (n .result .complete) (n .result .ours) (n .result .theirs)
-    (outcome (c .before .before .before .before .before .before .before .before .before .before .before .before .before .before)) (ap (λ (q : Answer). q .refusal) (n .ensures)) (c .before .before .before .before .before .before .if1 .left) (ap (λ (q : Answer). q .complete) (n .ensures)) (ap (λ (q : Answer). q .ours) (n .ensures)) (ap (λ (q : Answer). q .theirs) (n .ensures))) (c .before .before .put-listing .ensures)
+    (outcome (c .before .before .before .before .before .before .before .before .before .before .before .before .before .before)) (ap (λ (q : ReadAnswer). q .refusal) (n .ensures)) (c .before .before .before .before .before .before .if1 .left) (ap (λ (q : ReadAnswer). q .complete) (n .ensures)) (ap (λ (q : ReadAnswer). q .ours) (n .ensures)) (ap (λ (q : ReadAnswer). q .theirs) (n .ensures))) (c .before .before .put-listing .ensures)
 
 pub show-spec : {M : Type 1} → statement M
 show-spec =
