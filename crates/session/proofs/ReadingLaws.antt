@@ -1,29 +1,27 @@
 -- The reading in a session is filter's, and what a complete one lists: held IDs as ours, IDs that are not held as theirs, each once.
 -- Assumes nothing.
 use mathlib.Core.Path.{_≡_, refl, sym, subst, _∙_}
-use mathlib.Core.Bool.{true, not, false≢true}
-use mathlib.Core.List.{List, [], _∷_, reverse}
+use mathlib.Core.Bool.{true, false≢true}
+use mathlib.Core.List.{List, List·Memᴰ, reverse}
 use Prim.Native.Nat.{ℕ}
 use lib.Dec.{leb}
 use lib.ListN.{length}
-use borrow.Author.Tests.{not-true}
 use Rattle.bucket.specs.Columns.{Columns, view}
-use Rattle.bucket.specs.Lists.{elem, Distinct}
-use Rattle.bucket.proofs.ListLaws.{elem-cases}
+use Rattle.bucket.specs.Lists.{Distinct}
 use Rattle.bucket.proofs.TestLaws.{and-holds}
 use Rattle.filter.specs.declared.answers.Refusal.the-variants.{None}
 use Rattle.filter.specs.declared.answers.Verdict.{Verdict}
 use Rattle.filter.specs.declared.answers.Verdict.the-variants.{Complete, Stuck, False}
 use Rattle.filter.specs.Calls.{inRange, areCounts, hasRoom, readRefusal, Read, readFalse, readWith, readCall}
-use Rattle.filter.specs.Filter.{Item, ours, theirs, oursOf, theirsOf, Rule, filterRule, difference}
-use Rattle.filter.specs.Peeling.{Outcome, reading, agrees, verdict}
+use Rattle.filter.specs.Filter.{oursOf, theirsOf, Rule, filterRule, difference}
+use Rattle.filter.specs.Peeling.{Outcome, reading, verdict}
 use Rattle.filter.specs.Table.{hashesOf, isTable}
 use Rattle.filter.proofs.GrantedLaws.{granted-read, listed-back}
-use Rattle.filter.proofs.SelectLaws.{elem-reverse, distinct-reverse}
+use Rattle.filter.proofs.SelectLaws.{elem-mem, mem-elem, elem-reverse, distinct-reverse}
 use Rattle.filter.proofs.SideLaws.{distinct-ours, distinct-theirs}
-use Rattle.filter.proofs.SoundLaws.{verdict-complete, reading-distinct}
+use Rattle.filter.proofs.SoundLaws.{sound-ours, sound-theirs, reading-distinct}
 use Rattle.session.specs.Session.{isComplete, isFalse, oursIn, theirsIn, idsOf, readingAt}
-use Rattle.session.proofs.SetLaws.{_∈_, _⊆_, clash, and-l, and-r, not-in-nil}
+use Rattle.session.proofs.SetLaws.{_∈_, _⊆_}
 use Rattle.session.proofs.ListLaws.{Apart}
 
 -- what a complete reading lists, against the IDs of the table
@@ -32,23 +30,6 @@ pub record ReadLaw (ids : List ℕ) (r : Read) : Type 0 where
   pub oursOnce : Distinct (oursIn r)
   pub theirsNew : Apart (theirsIn r) ids
   pub theirsOnce : Distinct (theirsIn r)
-
--- ---- "an ID listed as ours is not in our table or one listed as theirs is"
-
-agrees-ours : (t : List ℕ) (l : List Item) → agrees t l ≡ true → oursOf l ⊆ t
-unfolding agrees oursOf
-agrees-ours t [] f x e = absurd (not-in-nil x e)
-agrees-ours t (ours a ∷ l) f x e =
-    elem-cases (λ (z : ℕ). z ∈ t) x a (oursOf l) e (and-l (elem a t) (agrees t l) f) (agrees-ours t l (and-r (elem a t) (agrees t l) f) x)
-agrees-ours t (theirs a ∷ l) f x e = agrees-ours t l (and-r (not (elem a t)) (agrees t l) f) x e
-
-agrees-theirs : (t : List ℕ) (l : List Item) → agrees t l ≡ true → Apart (theirsOf l) t
-unfolding agrees theirsOf
-agrees-theirs t [] f x e = absurd (not-in-nil x e)
-agrees-theirs t (ours a ∷ l) f x e = agrees-theirs t l (and-r (elem a t) (agrees t l) f) x e
-agrees-theirs t (theirs a ∷ l) f x e =
-    elem-cases (λ (z : ℕ). z ∈ t → ⊥) x a (theirsOf l) e (λ k. clash k (not-true (elem a t) (and-l (not (elem a t)) (agrees t l) f)))
-    (agrees-theirs t l (and-r (not (elem a t)) (agrees t l) f) x)
 
 -- ---- a reading by its verdict
 
@@ -74,19 +55,23 @@ module _ (derive : ℕ → ℕ) (t : List ℕ) (size salt : ℕ) (c : Columns) (
       once : Distinct (Rattle.filter.specs.Filter.ids (r .listed))
       once = reading-distinct R (difference R (idsOf derive t) (view c))
 
-      listed : agrees (idsOf derive t) (r .listed) ≡ true → ReadLaw (idsOf derive t) (readWith Complete size r c o th)
-      listed f =
+      -- a listed ID, in the order of peeling
+      back : (l : List ℕ) (x : ℕ) → x ∈ reverse l → List·Memᴰ x l
+      back l x e = elem-mem x l (sym (elem-reverse x l) ∙ e)
+
+      listed : verdict R (idsOf derive t) r ≡ Complete → ReadLaw (idsOf derive t) (readWith Complete size r c o th)
+      listed v =
           let a : oursIn (readWith Complete size r c o th) ≡ reverse (oursOf (r .listed)) = listed-back size (oursOf (r .listed)) o in
           let b : theirsIn (readWith Complete size r c o th) ≡ reverse (theirsOf (r .listed)) = listed-back size (theirsOf (r .listed)) th in
           record {
-            oursHeld = λ x e. agrees-ours (idsOf derive t) (r .listed) f x (sym (elem-reverse x (oursOf (r .listed))) ∙ subst (λ (l : List ℕ). x ∈ l) a e);
+            oursHeld = λ x e. mem-elem (sound-ours R (idsOf derive t) (view c) v x (back (oursOf (r .listed)) x (subst (λ (l : List ℕ). x ∈ l) a e)));
             oursOnce = subst Distinct (sym a) (distinct-reverse (oursOf (r .listed)) (distinct-ours (r .listed) once));
-            theirsNew = λ x e. agrees-theirs (idsOf derive t) (r .listed) f x (sym (elem-reverse x (theirsOf (r .listed))) ∙ subst (λ (l : List ℕ). x ∈ l) b e);
+            theirsNew = λ x e k. sound-theirs R (idsOf derive t) (view c) v x (back (theirsOf (r .listed)) x (subst (λ (l : List ℕ). x ∈ l) b e)) (elem-mem x (idsOf derive t) k);
             theirsOnce = subst Distinct (sym b) (distinct-reverse (theirsOf (r .listed)) (distinct-theirs (r .listed) once));
           }
 
       go : (v : Verdict) → verdict R (idsOf derive t) r ≡ v → isComplete (readWith v size r c o th) ≡ true → ReadLaw (idsOf derive t) (readWith v size r c o th)
-      go Complete e k = listed (unfold verdict in verdict-complete (r .fine) _ (agrees (idsOf derive t) (r .listed)) e .2)
+      go Complete e k = listed e
       go Stuck e k = absurd (false≢true k)
       go False e k = absurd (false≢true k)
 

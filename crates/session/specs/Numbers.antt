@@ -14,7 +14,7 @@ use Rattle.bucket.specs.Lists.{elem, over}
 use Rattle.filter.specs.Calls.{inRange, allCounts, hasRoom, readWith, Read}
 use Rattle.filter.specs.Filter.{sumAt, filterOf, difference}
 use Rattle.filter.specs.Lists.{rising, distinct, minus, select}
-use Rattle.filter.specs.Peeling.{first, allZero, agrees, isPure, look, next, run, reading, verdict}
+use Rattle.filter.specs.Peeling.{first, allZero, isPure, look, next, run, reading, verdict}
 use Rattle.filter.specs.Table.{hashesOf, isTable}
 use Rattle.message.specs.Layout.{Content, slice, inquiry, offer, demand, element, done}
 use Rattle.message.specs.Laying.{laid}
@@ -92,7 +92,7 @@ stuckAt swaps = step (λ h. h) [] 0 (sessionAt 0 false 37 0 swaps 0 noLedger) (s
 -- "At most 16 such swaps"
 pub swaps-counted : (stuckAt 15 .state ≡ 3) × (stuckAt 15 .swaps ≡ 16) × (stuckAt 16 .state ≡ 7) × (stuckAt 16 .swaps ≡ 16)
 unfolding step refusal admitted entry firstFault faults placed tooMany readingAt readWith verdict reading run next first look isPure difference filterOf
-    sumAt view laid over allZero isZero _⊕_ neg 𝟎 agrees act onSlice swapped refused cleared idsOf
+    sumAt view laid over allZero isZero _⊕_ neg 𝟎 act onSlice swapped refused cleared idsOf
 swaps-counted = (refl, refl, refl, refl)
 
 -- "swaps are at most 16, size and salt in range"; the states are 0 to 7
