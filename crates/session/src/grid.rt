@@ -24,14 +24,14 @@ pub(crate) const DONE: usize = 6;
 
 // One row a state: IBF, IBF LAST, INQUIRY, OFFER, DEMAND, ELEMENT, DONE.
 const GRID: [[bool; 7]; 8] = [
-    [true, true, false, false, false, false, false],
-    [true, true, false, false, false, false, false],
-    [false, false, false, true, true, true, true],
-    [true, true, true, true, true, true, true],
-    [false, false, false, false, false, true, false],
-    [false, false, false, false, false, true, false],
-    [false, false, false, false, false, false, false],
-    [false, false, false, false, false, false, false],
+    [true, true, false, false, false, false, false], // 0 Expecting IBF
+    [true, true, false, false, false, false, false], // 1 Expecting IBF Last
+    [false, false, false, true, true, true, true], // 2 Active Decoding
+    [true, true, true, true, true, true, true], // 3 Passive Decoding
+    [false, false, false, false, false, true, false], // 4 Finish Closing
+    [false, false, false, false, false, true, false], // 5 Finish Waiting
+    [false, false, false, false, false, false, false], // 6 Finished
+    [false, false, false, false, false, false, false], // 7 Aborted
 ];
 
 // Whether a message of a kind may come in a state.

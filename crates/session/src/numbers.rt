@@ -114,11 +114,11 @@ fn in_state(mut numbers: Numbers, state: u32) -> Numbers
 }
 
 // A message has come, the state stays.
-pub(crate) fn onward(mut numbers: Numbers) -> Numbers
-    ensures { λ r. ⌜ r ≡ onward numbers ⌝ }
+pub(crate) fn onward(mut next: Numbers) -> Numbers
+    ensures { λ r. ⌜ r ≡ onward next ⌝ }
 {
-    numbers.first = 0;
-    numbers
+    next.first = 0;
+    next
 }
 
 pub(crate) fn with_demanded(mut numbers: Numbers, n: u32) -> Numbers
