@@ -63,12 +63,12 @@ static const struct job jobs[] = {
     STEP("element", "ELEMENT, Passive, 4094 held and 2 wanted", 4093, 4093, 2, 1, 500000),
     STEP("last_element", "last ELEMENT of 2048, DONE goes", 4093, 2048, 0, 2048, 500000),
     STEP("done", "DONE, Passive, finishes", 4093, 3096, 0, 1000, 0),
-    STEP("malformed", "malformed: an IBF LAST a byte short", 4093, 3096, 1000, 0, 0),
+    STEP("malformed", "malformed: an IBF LAST a byte short", 4093, 3096, 1000, 0, 150000),
     SESSION("session_5_5", "session, 5 + 5", 4086, 5, 5, 0, 0),
     SESSION("session_50_50", "session, 50 + 50", 3996, 50, 50, 0, 0),
-    SESSION("session_500_500", "session, 500 + 500", 3096, 500, 500, 1000000000, 500000000),
-    SESSION("session_1000_0", "session, receiver alone has 1000", 3096, 1000, 0, 1000000000, 500000000),
-    SESSION("session_0_1000", "session, sender alone has 1000", 3096, 0, 1000, 1000000000, 500000000),
+    SESSION("session_500_500", "session, 500 + 500", 3096, 500, 500, 400000000, 0),
+    SESSION("session_1000_0", "session, receiver alone has 1000", 3096, 1000, 0, 400000000, 0),
+    SESSION("session_0_1000", "session, sender alone has 1000", 3096, 0, 1000, 400000000, 0),
 };
 
 /* Before which message each step stops, and how it answers it: the refusal and the state. */
