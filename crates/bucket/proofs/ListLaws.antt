@@ -178,52 +178,6 @@ distinct-count (a ∷ l) m d h =
     apart : (b : ℕ) → elem b l ≡ true → b ≢ a
     apart b e q = true≢false (sym e ∙ ap (λ (v : ℕ). elem v l) q ∙ d .0)
 
--- the numbers below m
-below : ℕ → List ℕ
-below zero = []
-below (suc m) = m ∷ below m
-
-below-length : (m : ℕ) → length (below m) ≡ m
-unfolding below
-below-length zero = refl
-below-length (suc m) = ap suc (below-length m)
-
-below-elem : (m a : ℕ) → a < m → elem a (below m) ≡ true
-unfolding below
-below-elem zero a h = absurd (omega arith)
-below-elem (suc m) a h = go (eqb a m) refl (below-elem m a)
-  where
-    go : (t : Bool) → eqb a m ≡ t → (a < m → elem a (below m) ≡ true) → elem a (m ∷ below m) ≡ true
-    go true q ih = rw (eqb-true a m q) (elem-head m (below m))
-    go false q ih = elem-tail a m (below m) (ih (less (eqb-false a m q)))
-      where
-        less : a ≢ m → a < m
-        less ne = omega arith
-
-below-lt : (m a : ℕ) → elem a (below m) ≡ true → a < m
-unfolding below
-below-lt zero a e = absurd (false≢true (sym (elem-nil a) ∙ e))
-below-lt (suc m) a e = elem-cases (λ (v : ℕ). v < suc m) a m (below m) e (omega arith) (λ f. omega (arith, below-lt m a f))
-
-below-distinct : (m : ℕ) → Distinct (below m)
-unfolding below
-below-distinct zero = tt
-below-distinct (suc m) = (go (elem m (below m)) refl, below-distinct m)
-  where
-    go : (t : Bool) → elem m (below m) ≡ t → t ≡ false
-    go true e = absurd (omega (arith, below-lt m m e))
-    go false e = refl
-
--- distinct numbers below m are at most m
-pub distinct-below : (m : ℕ) (l : List ℕ) → Distinct l → ((a : ℕ) → elem a l ≡ true → a < m) → length l ≤ m
-distinct-below m l d h =
-    omega (arith, below-length m, distinct-count l (below m) d (λ a e. below-elem m a (h a e)))
-
--- where every number below m stands, there are at least m
-pub covered-below : (m : ℕ) (l : List ℕ) → ((a : ℕ) → a < m → elem a l ≡ true) → m ≤ length l
-covered-below m l h =
-    omega (arith, below-length m, distinct-count (below m) l (below-distinct m) (λ a e. h a (below-lt m a e)))
-
 -- ---- zeros behind
 
 pub pad-length : (n : ℕ) (l : List ℕ) → length l ≤ n → length (pad n l) ≡ n

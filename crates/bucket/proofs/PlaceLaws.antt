@@ -25,12 +25,10 @@ use Rattle.bucket.proofs.ListLaws.{
   elem-at,
   at-index,
   distinct-last,
-  distinct-below,
-  covered-below,
   pad-at,
 }
 use Rattle.bucket.proofs.SearchLaws.{firsts-full, firsts-take, inTurn, number-at, places-of-some}
-use Rattle.bucket.proofs.TableLaws.{tabulated-length, tabulated-at, tabulated-rest, next-by-tables}
+use Rattle.bucket.proofs.TableLaws.{tabulated-length, tabulated-at, tabulated-rest, distinct-below, covered-below, next-by-tables}
 
 -- ---- what each candidate leaves
 
@@ -129,9 +127,9 @@ firsts-covers k t (b ∷ cs) h c e =
     short true p = absurd (omega (arith, h, leb-true k (length t) p, ap length (firsts-full k t (b ∷ cs) (leb-true k (length t) p))))
     short false p = leb-false k (length t) p
 
--- the last candidates are all the bucket numbers
-numbers-elem : (next : ℕ → ℕ → ℕ) (size d b : ℕ) → b < size → elem b (inTurn next size d) ≡ true
-numbers-elem next size d b h =
+-- every bucket is a candidate
+bucket-elem : (next : ℕ → ℕ → ℕ) (size d b : ℕ) → b < size → elem b (inTurn next size d) ≡ true
+bucket-elem next size d b h =
     ap (λ (v : ℕ). elem v (inTurn next size d)) (sym (number-at next size d b h))
     ∙ elem-at (inTurn next size d) (64 + b) (omega (arith, tabulated-length (candidate next size d) 0 (64 + size)))
 
@@ -146,7 +144,7 @@ places-length next k size d = go (leb k (length (placesBy next k size d))) refl
     all h =
         covered-below size (placesBy next k size d) (λ b l.
         let e = places-of-some next k size d (omega arith) in
-        ap (elem b) e ∙ firsts-covers k [] (inTurn next size d) (rw e at h) b (numbers-elem next size d b l))
+        ap (elem b) e ∙ firsts-covers k [] (inTurn next size d) (rw e at h) b (bucket-elem next size d b l))
 
     go : (a : Bool) → leb k (length (placesBy next k size d)) ≡ a → length (placesBy next k size d) ≡ min k size
     go true p = omega (arith, leb-true k (length (placesBy next k size d)) p, places-good next k size d .few, most)

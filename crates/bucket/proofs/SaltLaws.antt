@@ -71,10 +71,10 @@ module _ (t x : ℕ) where
   same-turn =
       ap (λ (n : ℕ). n % 64) (sym (ap (λ (n : ℕ). n * 7) (mod-add-div t 64)) ∙ omega arith) ∙ add-mul-mod-self-left (t % 64 * 7) 64 (t / 64 * 7)
 
-  pub salted-mod : salted t x ≡ salted (t % 64) x
+  pub salted-mod : rot (turn (t % 64)) x ≡ salted t x
   unfolding salted
-  salted-mod = ap (λ (s : ℕ). rot s x) same-turn
+  salted-mod = ap (λ (s : ℕ). rot s x) (sym same-turn)
 
-  pub unsalted-mod : unsalted t x ≡ unsalted (t % 64) x
+  pub unsalted-mod : rot (64 - turn (t % 64)) x ≡ unsalted t x
   unfolding unsalted
-  unsalted-mod = ap (λ (s : ℕ). rot (64 - s) x) same-turn
+  unsalted-mod = ap (λ (s : ℕ). rot (64 - s) x) (sym same-turn)

@@ -14,7 +14,7 @@ use Rattle.bucket.specs.Crc.{tabulated}
 use Rattle.bucket.specs.Lists.{pad, elem}
 use Rattle.bucket.specs.Places.{draw, candidate, candidates, firsts, placesBy}
 use Rattle.bucket.proofs.ListLaws.{or-true-r, pad-last}
-use Rattle.bucket.proofs.TableLaws.{tabulated-length, tabulated-at, tabulated-rest}
+use Rattle.bucket.proofs.TableLaws.{tabulated-length, tabulated-at, tabulated-rest, numbers, numbers-at}
 
 -- ---- one candidate
 
@@ -54,13 +54,11 @@ number-at next size d b h =
     ∙ ap (λ (t : Bool). cond t (draw next d (0 + (64 + b)) % size) (0 + (64 + b) - 64)) (le-ltb (0 + (64 + b)) 64 (omega arith))
     ∙ omega arith
 
-numbers-last : (next : ℕ → ℕ → ℕ) (size d : ℕ) → drop 64 (inTurn next size d) ≡ tabulated (λ c. c) 0 size
+numbers-last : (next : ℕ → ℕ → ℕ) (size d : ℕ) → drop 64 (inTurn next size d) ≡ numbers size
 numbers-last next size d =
-    ext-getD 0 (drop 64 (inTurn next size d)) (tabulated (λ c. c) 0 size) (long ∙ sym (tabulated-length (λ c. c) 0 size))
-    (λ i h.
-    getD-drop 64 (inTurn next size d) i 0
-    ∙ number-at next size d i (omega (arith, long))
-    ∙ sym (tabulated-at (λ c. c) 0 size i (omega (arith, long)) ∙ omega arith))
+    ext-getD 0 (drop 64 (inTurn next size d)) (numbers size) (long ∙ sym (tabulated-length (λ c. c) 0 size)) (λ i h.
+    let l : i < size = omega (arith, long) in
+    getD-drop 64 (inTurn next size d) i 0 ∙ number-at next size d i l ∙ sym (numbers-at size i l))
   where
     long : length (drop 64 (inTurn next size d)) ≡ size
     long = omega (arith, length-drop 64 (inTurn next size d), tabulated-length (candidate next size d) 0 (64 + size))
@@ -146,7 +144,7 @@ drawing-start next k size d h f z = record {
 
 -- after the last, what is missing is made up by bucket numbers
 pub drawing-last : {next : ℕ → ℕ → ℕ} {k size d : ℕ} {l : List ℕ} {n e i : ℕ} → Drawing next k size d l n e i → i ≡ 64
-    → firsts k (take n l) (tabulated (λ c. c) 0 size) ≡ placesBy next k size d
+    → firsts k (take n l) (numbers size) ≡ placesBy next k size d
 drawing-last {next} {k} {size} {d} {l} {n} s q =
     ap (firsts k (take n l)) (sym (ap (λ (m : ℕ). drop m (inTurn next size d)) q ∙ numbers-last next size d)) ∙ s .search .rest
 

@@ -13,8 +13,10 @@ use lib.Seq.{drop-cons, ext-getD, getD-set-same, getD-set-other}
 use lib.Dec.{eqb}
 use borrow.Author.Tests.{eqb-true, eqb-false}
 use Rattle.bucket.specs.Digits.{groups}
+use Rattle.bucket.specs.Lists.{elem, Distinct}
 use Rattle.bucket.specs.Crc.{steps, feed, crcOf, entry, tabulated, crcTables, lookedUp, crcOfZero, crcBy, nextBy}
 use Rattle.bucket.specs.Places.{crcNext}
+use Rattle.bucket.proofs.ListLaws.{elem-at, at-index, distinct-of, distinct-count}
 use Rattle.bucket.proofs.DigitLaws.{groups-length, groups-append, groups-mod}
 use Rattle.bucket.proofs.XorLaws.{xor-assoc}
 use Rattle.bucket.proofs.CrcLaws.{steps-xor, steps-zero, steps-add, feed-start, feed-append, crc-split}
@@ -37,6 +39,42 @@ pub tabulated-rest : (f : ℕ → ℕ) (n i : ℕ) → i < n → drop i (tabulat
 tabulated-rest f n i h =
     drop-cons (tabulated f 0 n) i 0 (omega (arith, tabulated-length f 0 n))
     ∙ ap₂ (λ (v m : ℕ). v ∷ drop m (tabulated f 0 n)) (tabulated-at f 0 n i h ∙ ap f (omega arith)) (sym (add-one i))
+
+-- ---- the numbers below n
+
+abbrev pub numbers : ℕ → List ℕ
+numbers n = tabulated (λ c. c) 0 n
+
+pub numbers-at : (n i : ℕ) → i < n → getD (numbers n) i 0 ≡ i
+numbers-at n i h = tabulated-at (λ c. c) 0 n i h ∙ omega arith
+
+pub numbers-elem : (n a : ℕ) → a < n → elem a (numbers n) ≡ true
+numbers-elem n a h =
+    ap (λ (v : ℕ). elem v (numbers n)) (sym (numbers-at n a h)) ∙ elem-at (numbers n) a (omega (arith, tabulated-length (λ c. c) 0 n))
+
+numbers-below : (n a : ℕ) → elem a (numbers n) ≡ true → a < n
+numbers-below n a e =
+    let r = at-index a (numbers n) e in
+    let l : r .0 < n = omega (arith, r .1, tabulated-length (λ c. c) 0 n) in
+    omega (arith, r .2, numbers-at n (r .0) l)
+
+numbers-distinct : (n : ℕ) → Distinct (numbers n)
+numbers-distinct n =
+    distinct-of (numbers n) (λ i j p q e.
+    let l : j < n = omega (arith, tabulated-length (λ c. c) 0 n) in
+    omega (arith, e, numbers-at n i (omega arith), numbers-at n j l))
+
+-- distinct numbers below n are at most n
+pub distinct-below : (n : ℕ) (l : List ℕ) → Distinct l → ((a : ℕ) → elem a l ≡ true → a < n) → length l ≤ n
+distinct-below n l d h =
+    omega (arith, tabulated-length (λ c. c) 0 n, distinct-count l (numbers n) d (λ a e. numbers-elem n a (h a e)))
+
+-- where every number below n stands, there are at least n
+pub covered-below : (n : ℕ) (l : List ℕ) → ((a : ℕ) → a < n → elem a l ≡ true) → n ≤ length l
+covered-below n l h =
+    omega (arith, tabulated-length (λ c. c) 0 n, distinct-count (numbers n) l (numbers-distinct n) (λ a e. h a (numbers-below n a e)))
+
+-- ---- a table that is being filled
 
 -- the first n entries of a list of m go by a rule
 pub record Filled (f : ℕ → ℕ) (m n : ℕ) (t : List ℕ) : Type 0 where

@@ -1,5 +1,4 @@
--- `bucket::counts::stratum` meets its contract.
--- Assumes nothing.
+-- `bucket::counts::stratum` meets its contract by arithmetic. Assumes nothing.
 use native.Mathlib.Omega.{arith}
 use Rattle.bucket.specs.Counts.{stratumOf}
 use Rattle.bucket.proofs.counts.stratum.Statement.{statement}

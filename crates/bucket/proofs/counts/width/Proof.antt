@@ -1,5 +1,4 @@
--- `bucket::counts::width` meets its contract.
--- Assumes nothing.
+-- `bucket::counts::width` meets its contract by arithmetic. Assumes nothing.
 use native.Mathlib.Omega.{arith}
 use Rattle.bucket.specs.Counts.{widthOf}
 use Rattle.bucket.proofs.counts.width.Statement.{statement}

@@ -1,40 +1,32 @@
 -- `bucket::packing::counter` meets its contract: the bits of counter i stand in the bytes from `first` up to `last`, at most five, and the number
 -- in these bytes, without the bits behind the counter and those before it, is the counter. Assumes nothing.
 use mathlib.Core.Path.{_≡_}
-use Prim.Native.Nat.{_+_, _-_, _*_, _/_, _<_, min}
+use Prim.Native.Nat.{_+_, _-_, _*_, _/_, _≤_, _<_, min}
 use native.Mathlib.Nat.{mod-lt, lt-of-lt-of-le}
 use lib.ListN.{length}
 use lib.Pow.{pow-pos, pow-mono}
-use Rattle.bucket.proofs.RoomLaws.{takes-room, room-reach}
+use Rattle.bucket.proofs.RoomLaws.{Room, room-reach}
 use Rattle.bucket.proofs.WindowLaws.{window-read}
 use native.Mathlib.Omega.{arith}
 use borrow.Author.Needs.{needs}
 use Rattle.bucket.proofs.packing.counter.Statement.{statement}
 use Rattle.bucket.proofs.packing.counter.Tie as tie
 
+-- what the code may count on
+reach : (s : tie.Start) → let a = s .args in Room (a .w) (a .n) (a .at) (length (a .s .now)) × (a .w * a .i + a .w ≤ a .w * a .n)
+reach s = room-reach _ _ _ _ _ (s .pre)
+
 mul-from : tie.Need-mul-from
-mul-from c =
-    let s = c .before in
-    let a = s .args in
-    omega (arith, room-reach (a .w) (a .n) (a .at) (length (a .s .now)) (a .i) (s .pre))
+mul-from c = omega (arith, reach (c .before))
 
 add-last : tie.Need-add-last
-add-last c =
-    let s = c .before in
-    let a = s .args in
-    omega (arith, room-reach (a .w) (a .n) (a .at) (length (a .s .now)) (a .i) (s .pre))
+add-last c = omega (arith, reach (c .before))
 
 add-last-2 : tie.Need-add-last-2
-add-last-2 c =
-    let s = c .before in
-    let a = s .args in
-    omega (arith, room-reach (a .w) (a .n) (a .at) (length (a .s .now)) (a .i) (s .pre))
+add-last-2 c = omega (arith, reach (c .before))
 
 add-number-at : tie.Need-add-number-at
-add-number-at c =
-    let s = c .before in
-    let a = s .args in
-    omega (arith, room-reach (a .w) (a .n) (a .at) (length (a .s .now)) (a .i) (s .pre))
+add-number-at c = omega (arith, reach (c .before))
 
 sub-number-at : tie.Need-sub-number-at
 sub-number-at c = search needs
@@ -43,10 +35,7 @@ number-at-requires : tie.Need-number-at-requires
 number-at-requires c κs = search needs
 
 mul-t : tie.Need-mul-t
-mul-t c =
-    let s = c .before .before in
-    let a = s .args in
-    omega (arith, room-reach (a .w) (a .n) (a .at) (length (a .s .now)) (a .i) (s .pre))
+mul-t c = omega (arith, reach (c .before .before))
 
 sub-t : tie.Need-sub-t
 sub-t c = search needs
@@ -66,21 +55,15 @@ div-result c =
     omega arith
 
 two-to-requires-2 : tie.Need-two-to-requires-2
-two-to-requires-2 c κs =
-    let s = c .before .before .before in
-    let a = s .args in
-    omega (arith, room-reach (a .w) (a .n) (a .at) (length (a .s .now)) (a .i) (s .pre))
+two-to-requires-2 c κs = omega (arith, reach (c .before .before .before))
 
 rem-result : tie.Need-rem-result
-rem-result c =
-    let a = c .before .before .before .before .args in
-    omega (arith, c .two-to2 .ensures, pow-pos (a .w))
+rem-result c = omega (arith, c .two-to2 .ensures, pow-pos (c .before .before .before .before .args .w))
 
 cast-result : tie.Need-cast-result
 cast-result c =
-    let s = c .before .before .before .before in
-    let a = s .args in
-    let r = room-reach (a .w) (a .n) (a .at) (length (a .s .now)) (a .i) (s .pre) in
+    let a = c .before .before .before .before .args in
+    let r = reach (c .before .before .before .before) in
     record { fits = rw (c .two-to2 .ensures) (lt-of-lt-of-le (mod-lt _ (pow-pos (a .w))) (pow-mono {i = a .w} {j = 32} (omega arith))) }
 
 returns : tie.Need-returns
@@ -88,9 +71,9 @@ returns c =
     let s = c .before .before .before .before in
     let a = s .args in
     let n = (a .w * a .i + a .w + 7) / 8 - a .w * a .i / 8 in
-    let few : min 8 n ≡ n = omega (arith, room-reach (a .w) (a .n) (a .at) (length (a .s .now)) (a .i) (s .pre)) in
+    let few : min 8 n ≡ n = omega (arith, reach s) in
     rw (c .before .before .number-at .ensures, few, c .before .two-to .ensures, c .two-to2 .ensures)
-    (window-read (a .w) (a .n) (a .at) (a .s .now) (takes-room (a .w) (a .n) (a .at) (length (a .s .now)) (s .pre .0)) (a .i) (s .pre .1))
+    (window-read (a .w) (a .n) (a .at) (a .s .now) (reach s .0) (a .i) (s .pre .1))
 
 pub counter-spec : {M : Type 1} → statement M
 counter-spec =

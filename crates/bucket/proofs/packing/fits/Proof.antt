@@ -1,9 +1,10 @@
 -- `bucket::packing::fits` meets its contract. The invariant: whether all counts fit is whether those from i on do. The measure is what is left of
 -- them. Assumes nothing.
-use mathlib.Core.Path.{sym, ap, _∙_}
+use mathlib.Core.Path.{_≡_, sym, ap, _∙_}
 use mathlib.Core.Bool.{Bool, _&&_}
 use Prim.Native.Nat.{_-_}
-use lib.ListN.{length}
+use lib.IntN.{pos}
+use lib.ListN.{length, getD}
 use borrow.Author.Needs.{needs}
 use Rattle.bucket.specs.Packing.{isWidth, hasBits, fitsIn}
 use Rattle.bucket.proofs.NumberLaws.{count-stored, Fitting, fitting-start, fitting-next, fitting-not, fitting-end}
@@ -30,9 +31,7 @@ returns-2 c =
     sym (ap (λ (t : Bool). t && fitsIn (a .w) (a .counts .now)) (width-high (a .w) (omega arith)))
 
 loop-holds : tie.Need-loop-holds Inv-loop μ-loop
-loop-holds c =
-    let a = c .before .before .args in
-    fitting-start (a .w) (a .counts .now)
+loop-holds c = let a = c .before .before .args in fitting-start (a .w) (a .counts .now)
 
 mul-has-bits : tie.Need-mul-has-bits Inv-loop μ-loop
 mul-has-bits c = search needs
@@ -43,11 +42,18 @@ shared-slice-copy-out-has-bits c = search needs
 has-bits-requires : tie.Need-has-bits-requires Inv-loop μ-loop
 has-bits-requires c κs = search needs
 
+-- the count that was looked at
+seen : (c : tie.After-has-bits Inv-loop μ-loop) → let s = c .before .before .before .before .before .before in
+    c .has-bits .result ≡ hasBits (s .args .w) (getD (s .args .counts .now) (c .before .before .before .loop .i) (pos 0))
+seen c =
+    let a = c .before .before .before .before .before .before .args in
+    c .has-bits .ensures ∙ ap (hasBits (a .w)) (count-stored (a .counts .now) (c .before .before .before .loop .i) (c .before .has-bits-arg .given))
+
 returns-3 : tie.Need-returns-3 Inv-loop μ-loop
 returns-3 c =
-    let s = c .before .before .before .before .before .before .before in
-    let i = c .before .before .before .before .loop .i in
-    sym (and-fails (isWidth (s .args .w)) (fitting-not (c .before .before .before .before .loop .inv) (omega arith) (test-refused (c .before .has-bits .ensures ∙ ap (hasBits (s .args .w)) (count-stored (s .args .counts .now) i (c .before .before .has-bits-arg .given))) (c .if3 .taken))))
+    let w = c .before .before .before .before .before .before .before .args .w in
+    let k = c .before .before .before .before .loop .inv in
+    sym (and-fails (isWidth w) (fitting-not k (omega arith) (test-refused (seen (c .before)) (c .if3 .taken))))
 
 add-i : tie.Need-add-i Inv-loop μ-loop
 add-i c = search needs
@@ -56,10 +62,7 @@ loop-less : tie.Need-loop-less Inv-loop μ-loop
 loop-less c = search needs
 
 loop-again : tie.Need-loop-again Inv-loop μ-loop
-loop-again c =
-    let s = c .before .before .before .before .before .before .before in
-    let i = c .before .before .before .before .loop .i in
-    fitting-next (c .before .before .before .before .loop .inv) (omega arith) (test-granted (c .before .has-bits .ensures ∙ ap (hasBits (s .args .w)) (count-stored (s .args .counts .now) i (c .before .before .has-bits-arg .given))) (c .if3 .left))
+loop-again c = fitting-next (c .before .before .before .before .loop .inv) (omega arith) (test-granted (seen (c .before)) (c .if3 .left))
 
 returns-4 : tie.Need-returns-4 Inv-loop μ-loop
 returns-4 c =

@@ -1,7 +1,7 @@
 -- `bucket::packing::pack_all` meets its contract. The invariant, `Packing`: of the bits of the first i counts, n whole bytes are written and the rest,
 -- fewer than 40, stand in acc. The measure falls with each count taken and with each byte written. Assumes nothing.
 use mathlib.Core.Path.{_≡_, ap, _∙_}
-use Prim.Native.Nat.{_+_, _-_, _*_}
+use Prim.Native.Nat.{_+_, _-_, _*_, _^_, _<_}
 use native.Mathlib.Nat.{lt-of-lt-of-le}
 use lib.ListN.{length}
 use lib.Pow.{shl-lt, shr-lt, pow-pos, pow-mono}
@@ -30,9 +30,7 @@ two-to-requires : tie.Need-two-to-requires Inv-loop μ-loop
 two-to-requires c κs = search needs
 
 div-out : tie.Need-div-out Inv-loop μ-loop
-div-out c =
-    let at = c .before .before .loop in
-    omega (arith, c .two-to .ensures, pow-pos (at .have - 8))
+div-out c = omega (arith, c .two-to .ensures, pow-pos (c .before .before .loop .have - 8))
 
 cast-out : tie.Need-cast-out Inv-loop μ-loop
 cast-out c =
@@ -42,24 +40,16 @@ cast-out c =
     record { fits = rw (c .two-to .ensures) (shr-lt 8 left (rw e at (packing-small (at .inv)))) }
 
 add-out : tie.Need-add-out Inv-loop μ-loop
-add-out c =
-    let at = c .before .before .loop in
-    omega (arith, packing-room (at .inv) (omega arith))
+add-out c = omega (arith, packing-room (c .before .before .loop .inv) (omega arith))
 
 slice-write-out : tie.Need-slice-write-out Inv-loop μ-loop
-slice-write-out c =
-    let at = c .before .before .loop in
-    omega (arith, packing-room (at .inv) (omega arith))
+slice-write-out c = omega (arith, packing-room (c .before .before .loop .inv) (omega arith))
 
 rem-acc : tie.Need-rem-acc Inv-loop μ-loop
-rem-acc c =
-    let at = c .before .before .loop in
-    omega (arith, c .two-to .ensures, pow-pos (at .have - 8))
+rem-acc c = omega (arith, c .two-to .ensures, pow-pos (c .before .before .loop .have - 8))
 
 add-n : tie.Need-add-n Inv-loop μ-loop
-add-n c =
-    let at = c .before .before .loop in
-    omega (arith, packing-room (at .inv) (omega arith))
+add-n c = omega (arith, packing-room (c .before .before .loop .inv) (omega arith))
 
 loop-less : tie.Need-loop-less Inv-loop μ-loop
 loop-less c = search needs
@@ -87,15 +77,24 @@ shared-slice-copy-out-number-of c = search needs
 number-of-requires : tie.Need-number-of-requires Inv-loop μ-loop
 number-of-requires c κs = search needs
 
-add-acc : tie.Need-add-acc Inv-loop μ-loop
-add-acc c =
+-- one more count is taken in
+more : (c : tie.After-number-of Inv-loop μ-loop) → let at = c .before .before .before .before .before .loop in
+    let a = c .before .before .before .before .before .before .before .args in
+    Packing (a .w) (a .at) (a .counts .now) (a .out .now) (at .out) (at .acc * c .before .before .two-to2 .result + c .number-of .result)
+    (at .have + a .w) (at .n) (at .i + 1)
+more c =
     let at = c .before .before .before .before .before .loop in
     let s = c .before .before .before .before .before .before .before in
     let l = s .args .counts .now in
-    let w = s .args .w in
-    let e = c .number-of .ensures ∙ ap number (count-stored l (at .i) (c .before .number-of-arg .given)) in
-    let next = packing-take (at .inv) (omega arith) (omega arith) (fits-at w l (at .i) (s .pre .0) (omega arith)) in
-    record { fits = rw (c .before .before .two-to2 .ensures, e) (lt-of-lt-of-le (packing-small next) (pow-mono {i = at .have + w} {j = 64} (omega arith))) }
+    let taken = c .number-of .ensures ∙ ap number (count-stored l (at .i) (c .before .number-of-arg .given)) in
+    rw (c .before .before .two-to2 .ensures, taken)
+    (packing-take (at .inv) (omega arith) (omega arith) (fits-at (s .args .w) l (at .i) (s .pre .0) (omega arith)))
+
+add-acc : tie.Need-add-acc Inv-loop μ-loop
+add-acc c =
+    let at = c .before .before .before .before .before .loop in
+    let w = c .before .before .before .before .before .before .before .args .w in
+    record { fits = lt-of-lt-of-le (packing-small (more c)) (pow-mono {i = at .have + w} {j = 64} (omega arith)) }
 
 add-have : tie.Need-add-have Inv-loop μ-loop
 add-have c = search needs
@@ -107,14 +106,7 @@ loop-less-2 : tie.Need-loop-less-2 Inv-loop μ-loop
 loop-less-2 c = search needs
 
 loop-again-2 : tie.Need-loop-again-2 Inv-loop μ-loop
-loop-again-2 c =
-    let at = c .before .before .before .before .before .loop in
-    let s = c .before .before .before .before .before .before .before in
-    let l = s .args .counts .now in
-    let w = s .args .w in
-    let e = c .number-of .ensures ∙ ap number (count-stored l (at .i) (c .before .number-of-arg .given)) in
-    let next = packing-take (at .inv) (omega arith) (omega arith) (fits-at w l (at .i) (s .pre .0) (omega arith)) in
-    rw (c .before .before .two-to2 .ensures, e) next
+loop-again-2 c = more c
 
 sub-two-to : tie.Need-sub-two-to Inv-loop μ-loop
 sub-two-to c = search needs
@@ -122,56 +114,51 @@ sub-two-to c = search needs
 two-to-requires-3 : tie.Need-two-to-requires-3 Inv-loop μ-loop
 two-to-requires-3 c κs = search needs
 
-mul-out : tie.Need-mul-out Inv-loop μ-loop
-mul-out c =
+-- the bits left over, put at the top of a byte
+top : (c : tie.After-two-to3 Inv-loop μ-loop) → c .before .before .before .before .loop .acc * c .two-to3 .result < 2 ^ 8
+top c =
     let at = c .before .before .before .before .loop in
-    record { fits = rw (c .two-to3 .ensures) (lt-of-lt-of-le (shl-lt (at .have) (8 - at .have) (packing-small (at .inv))) (pow-mono {i = at .have + (8 - at .have)} {j = 64} (omega arith))) }
+    rw (c .two-to3 .ensures)
+    (lt-of-lt-of-le (shl-lt (at .have) (8 - at .have) (packing-small (at .inv))) (pow-mono {i = at .have + (8 - at .have)} {j = 8} (omega arith)))
+
+mul-out : tie.Need-mul-out Inv-loop μ-loop
+mul-out c = omega (arith, top c)
 
 cast-out-2 : tie.Need-cast-out-2 Inv-loop μ-loop
-cast-out-2 c =
-    let at = c .before .before .before .before .loop in
-    record { fits = rw (c .two-to3 .ensures) (lt-of-lt-of-le (shl-lt (at .have) (8 - at .have) (packing-small (at .inv))) (pow-mono {i = at .have + (8 - at .have)} {j = 8} (omega arith))) }
+cast-out-2 c = omega (arith, top c)
 
 add-out-2 : tie.Need-add-out-2 Inv-loop μ-loop
-add-out-2 c =
-    let at = c .before .before .before .before .loop in
-    omega (arith, packing-room (at .inv) (omega arith))
+add-out-2 c = omega (arith, packing-room (c .before .before .before .before .loop .inv) (omega arith))
 
 slice-write-out-2 : tie.Need-slice-write-out-2 Inv-loop μ-loop
-slice-write-out-2 c =
-    let at = c .before .before .before .before .loop in
-    omega (arith, packing-room (at .inv) (omega arith))
+slice-write-out-2 c = omega (arith, packing-room (c .before .before .before .before .loop .inv) (omega arith))
 
 add-result : tie.Need-add-result Inv-loop μ-loop
-add-result c =
-    let at = c .before .before .before .before .loop in
-    omega (arith, packing-end (at .inv) (omega arith) (omega arith))
+add-result c = omega (arith, packing-end (c .before .before .before .before .loop .inv) (omega arith) (omega arith))
 
 add-result-2 : tie.Need-add-result-2 Inv-loop μ-loop
-add-result-2 c =
-    let at = c .before .before .before .before .loop in
-    omega (arith, packing-end (at .inv) (omega arith) (omega arith))
+add-result-2 c = omega (arith, packing-end (c .before .before .before .before .loop .inv) (omega arith) (omega arith))
 
 same-length : tie.Need-same-length Inv-loop μ-loop
 same-length c = search needs
 
 returns : tie.Need-returns Inv-loop μ-loop
 returns c =
-    let at = c .before .before .before .before .loop in
-    (omega (arith, packing-end (at .inv) (omega arith) (omega arith)), rw (c .two-to3 .ensures) (packing-last (at .inv) (omega arith) (omega arith) (omega arith) (packing-room (at .inv) (omega arith)) .laid))
+    let k = c .before .before .before .before .loop .inv in (
+      omega (arith, packing-end k (omega arith) (omega arith)),
+      rw (c .two-to3 .ensures) (packing-last k (omega arith) (omega arith) (omega arith) (packing-room k (omega arith)) .laid),
+    )
 
 add-result-3 : tie.Need-add-result-3 Inv-loop μ-loop
-add-result-3 c =
-    let at = c .before .before .before .loop in
-    omega (arith, packing-end (at .inv) (omega arith) (omega arith))
+add-result-3 c = omega (arith, packing-end (c .before .before .before .loop .inv) (omega arith) (omega arith))
 
 same-length-2 : tie.Need-same-length-2 Inv-loop μ-loop
 same-length-2 c = search needs
 
 returns-2 : tie.Need-returns-2 Inv-loop μ-loop
 returns-2 c =
-    let at = c .before .before .before .loop in
-    (omega (arith, packing-end (at .inv) (omega arith) (omega arith)), packing-whole (at .inv) (omega arith) (omega arith) .laid)
+    let k = c .before .before .before .loop .inv in
+    (omega (arith, packing-end k (omega arith) (omega arith)), packing-whole k (omega arith) (omega arith) .laid)
 
 pub pack-all-spec : {M : Type 1} → statement M
 pack-all-spec =

@@ -1,53 +1,39 @@
 -- `bucket::packing::spare_bits` meets its contract: fewer than eight bits are spare, so they stand in the last byte. Assumes nothing.
-use Prim.Native.Nat.{_+_, _-_, _*_, _/_}
+use Prim.Native.Nat.{_+_, _-_, _*_, _/_, _≤_}
 use native.Mathlib.Nat.{mod-lt, lt-of-lt-of-le}
 use lib.ListN.{length}
 use lib.Pow.{pow-pos, pow-mono}
-use Rattle.bucket.proofs.RoomLaws.{takes-room, room-reach}
+use Rattle.bucket.proofs.RoomLaws.{Room, room-reach}
 use Rattle.bucket.proofs.WindowLaws.{spare-read}
 use native.Mathlib.Omega.{arith}
 use borrow.Author.Needs.{needs}
 use Rattle.bucket.proofs.packing.spare_bits.Statement.{statement}
 use Rattle.bucket.proofs.packing.spare_bits.Tie as tie
 
+-- what the code may count on
+reach : (s : tie.Start) → let a = s .args in Room (a .w) (a .n) (a .at) (length (a .s .now)) × (a .w * 0 + a .w ≤ a .w * a .n)
+reach s = room-reach _ _ _ _ 0 (s .pre)
+
 mul-bits : tie.Need-mul-bits
-mul-bits c =
-    let s = c .before in
-    let a = s .args in
-    omega (arith, room-reach (a .w) (a .n) (a .at) (length (a .s .now)) 0 (s .pre))
+mul-bits c = omega (arith, reach (c .before))
 
 add-bytes : tie.Need-add-bytes
-add-bytes c =
-    let s = c .before in
-    let a = s .args in
-    omega (arith, room-reach (a .w) (a .n) (a .at) (length (a .s .now)) 0 (s .pre))
+add-bytes c = omega (arith, reach (c .before))
 
 add-last : tie.Need-add-last
-add-last c =
-    let s = c .before in
-    let a = s .args in
-    omega (arith, room-reach (a .w) (a .n) (a .at) (length (a .s .now)) 0 (s .pre))
+add-last c = omega (arith, reach (c .before))
 
 sub-last : tie.Need-sub-last
-sub-last c =
-    let s = c .before in
-    let a = s .args in
-    omega (arith, room-reach (a .w) (a .n) (a .at) (length (a .s .now)) 0 (s .pre))
+sub-last c = omega (arith, reach (c .before))
 
 shared-slice-read-last : tie.Need-shared-slice-read-last
-shared-slice-read-last c =
-    let s = c .before .before in
-    let a = s .args in
-    omega (arith, room-reach (a .w) (a .n) (a .at) (length (a .s .now)) 0 (s .pre))
+shared-slice-read-last c = omega (arith, reach (c .before .before))
 
 wide-requires : tie.Need-wide-requires
 wide-requires c κs = search needs
 
 mul-two-to : tie.Need-mul-two-to
-mul-two-to c =
-    let s = c .before .before .before in
-    let a = s .args in
-    omega (arith, room-reach (a .w) (a .n) (a .at) (length (a .s .now)) 0 (s .pre))
+mul-two-to c = omega (arith, reach (c .before .before .before))
 
 sub-two-to : tie.Need-sub-two-to
 sub-two-to c = search needs
@@ -74,8 +60,7 @@ returns c =
     let s = c .before .before .before .before in
     let a = s .args in
     rw (c .before .wide .ensures .0, c .two-to .ensures)
-    (spare-read (a .w) (a .n) (a .at) (a .s .now) (takes-room (a .w) (a .n) (a .at) (length (a .s .now)) (s .pre .0)) (s .pre .1)
-    (omega arith))
+    (spare-read (a .w) (a .n) (a .at) (a .s .now) (reach s .0) (s .pre .1) (omega arith))
 
 pub spare-bits-spec : {M : Type 1} → statement M
 spare-bits-spec =

@@ -6,17 +6,15 @@ use native.Mathlib.Omega.{arith}
 use borrow.Author.Needs.{needs}
 use borrow.Author.Tests.{not-true, not-false}
 use lib.ListN.{length, take, drop, drop-of-length-le}
-use Rattle.bucket.specs.Crc.{tabulated}
 use Rattle.bucket.specs.Places.{firsts}
-use Rattle.bucket.proofs.TableLaws.{tabulated-length, tabulated-rest}
+use Rattle.bucket.proofs.TableLaws.{tabulated-length, tabulated-rest, numbers}
 use Rattle.bucket.proofs.SearchLaws.{Searching, search-full, search-spent, search-skip, search-take}
 use Rattle.bucket.proofs.places.fill.Statement.{statement}
 use Rattle.bucket.proofs.places.fill.Tie as tie
 
 abbrev Inv-loop : tie.InvT-loop
 Inv-loop taken₀ found size k n₀ c₀ taken n c =
-    (c ≤ size)
-    × Searching (length taken₀) k (firsts k (take found taken₀) (tabulated (λ (b : ℕ). b) 0 size)) taken n (drop c (tabulated (λ (b : ℕ). b) 0 size))
+    (c ≤ size) × Searching (length taken₀) k (firsts k (take found taken₀) (numbers size)) taken n (drop c (numbers size))
 
 abbrev μ-loop : tie.MeasureT-loop
 μ-loop taken₀ found size k n₀ c₀ taken n c = size - c
@@ -67,7 +65,7 @@ returns-2 : tie.Need-returns-2 Inv-loop μ-loop
 returns-2 c =
     let size = c .before .before .before .args .size in
     search-spent (c .before .loop .inv .1)
-    (drop-of-length-le (tabulated (λ (b : ℕ). b) 0 size) {i = c .before .loop .c} (omega (arith, tabulated-length (λ (b : ℕ). b) 0 size)))
+    (drop-of-length-le (numbers size) {i = c .before .loop .c} (omega (arith, tabulated-length (λ (b : ℕ). b) 0 size)))
 
 pub fill-spec : {M : Type 1} → statement M
 fill-spec =

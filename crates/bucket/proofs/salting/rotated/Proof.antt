@@ -1,5 +1,4 @@
--- `bucket::salting::rotated` meets its contract.
--- Assumes nothing.
+-- `bucket::salting::rotated` meets its contract: the two shifts fill separate bits, and by 0 there is nothing to shift. Assumes nothing.
 use mathlib.Core.Path.{_≡_, sym, subst}
 use Prim.Native.Nat.{ℕ, _+_, _-_, _*_, _/_, _%_, _^_, _<_}
 use native.Mathlib.Omega.{arith}

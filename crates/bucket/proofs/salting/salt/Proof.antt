@@ -1,7 +1,6 @@
 -- `bucket::salting::salt` meets its contract: a salt counts modulo 64. Assumes nothing.
-use mathlib.Core.Path.{sym, _∙_}
+use mathlib.Core.Path.{_∙_}
 use borrow.Author.Needs.{needs}
-use Rattle.bucket.specs.Salt.{salted}
 use Rattle.bucket.proofs.SaltLaws.{salted-mod}
 use Rattle.bucket.proofs.salting.salt.Statement.{statement}
 use Rattle.bucket.proofs.salting.salt.Tie as tie
@@ -13,8 +12,7 @@ rotated-requires : tie.Need-rotated-requires
 rotated-requires c κs = search needs
 
 returns : tie.Need-returns
-unfolding salted
-returns c = c .rotated .ensures ∙ sym (salted-mod (c .before .args .t) (c .before .args .x))
+returns c = c .rotated .ensures ∙ salted-mod (c .before .args .t) (c .before .args .x)
 
 pub salt-spec : {M : Type 1} → statement M
 salt-spec = tie.close (tie.spec mul-rotated rotated-requires returns)

@@ -3,13 +3,10 @@ use mathlib.Core.Path.{sym, ap, _∙_}
 use Prim.Native.Nat.{ℕ, _-_}
 use native.Mathlib.Omega.{arith}
 use borrow.Author.Needs.{needs}
-use Rattle.bucket.specs.Salt.{rot, unsalted}
+use Rattle.bucket.specs.Salt.{rot}
 use Rattle.bucket.proofs.SaltLaws.{rot-all, unsalted-mod}
 use Rattle.bucket.proofs.salting.unsalt.Statement.{statement}
 use Rattle.bucket.proofs.salting.unsalt.Tie as tie
-
--- `bucket::salting::unsalt` meets its contract.
--- Assumes nothing.
 
 mul-turn : tie.Need-mul-turn
 mul-turn c = search needs
@@ -21,14 +18,12 @@ rotated-requires : tie.Need-rotated-requires
 rotated-requires c κs = search needs
 
 returns : tie.Need-returns
-unfolding unsalted
 returns c =
     let x = c .before .args .x in
-    sym (unsalted-mod (c .before .args .t) x ∙ ap (λ (s : ℕ). rot (64 - s) x) (c .if1 .taken) ∙ rot-all x (omega arith))
+    sym (rot-all x (omega arith)) ∙ ap (λ (s : ℕ). rot (64 - s) x) (sym (c .if1 .taken)) ∙ unsalted-mod (c .before .args .t) x
 
 returns-2 : tie.Need-returns-2
-unfolding unsalted
-returns-2 c = c .rotated .ensures ∙ sym (unsalted-mod (c .before .before .args .t) (c .before .before .args .x))
+returns-2 c = c .rotated .ensures ∙ unsalted-mod (c .before .before .args .t) (c .before .before .args .x)
 
 pub unsalt-spec : {M : Type 1} → statement M
 unsalt-spec = tie.close (tie.spec mul-turn sub-rotated rotated-requires returns returns-2)
