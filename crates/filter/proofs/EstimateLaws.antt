@@ -106,11 +106,8 @@ module _ (n : ℕ) (c₀ d c : Columns) (i : ℕ) (k : Subtracting n c₀ d c i)
     unfolding view
     old-count = ap (λ (b : Bucket). b .count) old
 
-    small-here : natAbs (getD (c .counts) i (pos 0)) < 2 ^ 33
+    pub small-here : natAbs (getD (c .counts) i (pos 0)) < 2 ^ 33
     small-here = rw old-count (s .all i h)
-
-    pub subtracting-fits : SFits w64 (toZ w64 (ofZ w64 (getD (c .counts) i (pos 0))) -ℤ toZ w64 (ofZ w64 (getD (d .counts) i (pos 0))))
-    subtracting-fits = count-less-fits (getD (c .counts) i (pos 0)) (getD (d .counts) i (pos 0)) small-here (t .all i h)
 
     pub subtracting-next : Subtracting n c₀ d
         (columns (set (c .idsums) i (bitXor (getD (c .idsums) i 0) (getD (d .idsums) i 0)))

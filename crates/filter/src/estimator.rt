@@ -54,11 +54,11 @@ pub fn estimate(
         (columns (now (ids2 .entry)) (now (hashes2 .entry)) (now (counts2 .entry))) ⌝ }
 {
     let counted = are_counts(counts, counts2);
-    let roomy = have_room(ids, hashes, counts, ids2, hashes2, counts2);
+    let both_roomy = have_room(ids, hashes, counts, ids2, hashes2, counts2);
     if !counted {
         return Estimation::NotCounts;
     }
-    if !roomy {
+    if !both_roomy {
         return Estimation::TooShort;
     }
     crate::strata::subtract(ids, hashes, counts, ids2, hashes2, counts2, 2528);

@@ -23,7 +23,8 @@ pub(crate) fn least(bits: &[u64; 64], top: u64) -> usize
     ensures { λ r. ⌜ ((g : ℕ → Bool) → Marks g (now (bits .entry)) top → Least g r) ⌝ }
 {
     let i = u64::trailing_zeros(top) as usize;
-    i * 64 + (u64::trailing_zeros(bits[i]) as usize)
+    let j = u64::trailing_zeros(bits[i]) as usize;
+    i * 64 + j
 }
 
 // The word with bit j on or off.

@@ -1,6 +1,6 @@
 -- `building::build` meets its contract: each early answer is the definition's at the test that failed, and behind them the filter is filled in.
 -- Assumes nothing.
-use mathlib.Core.Path.{_≡_, ap}
+use mathlib.Core.Path.{_≡_, refl, ap}
 use mathlib.Core.Bool.{true}
 use denote.Ref.{now}
 use Rattle.bucket.specs.Columns.{columns}
@@ -10,6 +10,23 @@ use Rattle.filter.specs.Calls.{inRange, hasRoom, built, buildRefusal, bu
 use borrow.Author.Needs.{needs}
 use Rattle.filter.proofs.building.build.Statement.{statement}
 use Rattle.filter.proofs.building.build.Tie as tie
+
+returns : tie.Need-returns
+unfolding buildCall buildRefusal
+returns c = rw (test-refused (c .before .before .before .before .before .before .is-table .ensures) (c .if1 .taken)) refl
+
+returns-2 : tie.Need-returns-2
+unfolding buildCall buildRefusal
+returns-2 c = rw (test-granted (c .before .before .before .before .before .before .before .is-table .ensures) (c .before .if1 .left), test-refused (c .before .before .before .before .before .before .in-range .ensures) (c .if2 .taken)) refl
+
+returns-3 : tie.Need-returns-3
+unfolding buildCall buildRefusal
+returns-3 c =
+    rw (
+      test-granted (c .before .before .before .before .before .before .before .before .is-table .ensures) (c .before .before .if1 .left),
+      test-granted (c .before .before .before .before .before .before .before .in-range .ensures) (c .before .if2 .left),
+      test-refused (c .before .before .before .has-room .ensures) (c .if3 .taken),
+    ) refl
 
 -- behind the three tests
 granted : (c : tie.Else3)
@@ -21,23 +38,6 @@ granted c = (
   test-granted (c .before .before .before .before .before .before .before .in-range .ensures) (c .before .if2 .left),
   test-granted (c .before .before .before .has-room .ensures) (c .if3 .left),
 )
-
-returns : tie.Need-returns
-unfolding buildCall buildRefusal
-returns c = rw (test-refused (c .before .before .before .before .before .before .is-table .ensures) (c .if1 .taken))
-
-returns-2 : tie.Need-returns-2
-unfolding buildCall buildRefusal
-returns-2 c = rw (test-granted (c .before .before .before .before .before .before .before .is-table .ensures) (c .before .if1 .left), test-refused (c .before .before .before .before .before .before .in-range .ensures) (c .if2 .taken))
-
-returns-3 : tie.Need-returns-3
-unfolding buildCall buildRefusal
-returns-3 c =
-    rw (
-      test-granted (c .before .before .before .before .before .before .before .before .is-table .ensures) (c .before .before .if1 .left),
-      test-granted (c .before .before .before .before .before .before .before .in-range .ensures) (c .before .if2 .left),
-      test-refused (c .before .before .before .has-room .ensures) (c .if3 .taken),
-    )
 
 fill-requires : tie.Need-fill-requires
 fill-requires c κs = granted (c .before .before .before)

@@ -1,6 +1,6 @@
 -- `estimator::estimate` meets its contract: each early answer is the definition's at the test that failed; behind them the first columns hold the
 -- difference, whose strata are read as the definition's are. Assumes nothing.
-use mathlib.Core.Path.{_≡_}
+use mathlib.Core.Path.{_≡_, refl}
 use mathlib.Core.Bool.{true, _&&_}
 use native.Mathlib.Omega.{arith}
 use denote.Ref.{now}
@@ -12,6 +12,14 @@ use Rattle.filter.proofs.EstimateLaws.{estimate-ready, less-wide, less-
 use borrow.Author.Needs.{needs}
 use Rattle.filter.proofs.estimator.estimate.Statement.{statement}
 use Rattle.filter.proofs.estimator.estimate.Tie as tie
+
+returns : tie.Need-returns
+unfolding estimateCall estimateRefusal
+returns c = rw (test-refused (c .before .before .before .before .before .are-counts .ensures) (c .if1 .taken)) refl
+
+returns-2 : tie.Need-returns-2
+unfolding estimateCall estimateRefusal
+returns-2 c = rw (test-granted (c .before .before .before .before .before .before .are-counts .ensures) (c .before .if1 .left), test-refused (c .before .before .have-room .ensures) (c .if2 .taken)) refl
 
 -- behind the two tests: the columns as they were lent, and what the tests say of them
 abbrev first : tie.Else2 → Columns
@@ -25,14 +33,6 @@ counted c = test-granted (c .before .before .before .before .before .before .are
 
 roomy : (c : tie.Else2) → hasRoom 2528 (first c) && hasRoom 2528 (second c) ≡ true
 roomy c = test-granted (c .before .before .have-room .ensures) (c .if2 .left)
-
-returns : tie.Need-returns
-unfolding estimateCall estimateRefusal
-returns c = rw (test-refused (c .before .before .before .before .before .are-counts .ensures) (c .if1 .taken))
-
-returns-2 : tie.Need-returns-2
-unfolding estimateCall estimateRefusal
-returns-2 c = rw (test-granted (c .before .before .before .before .before .before .are-counts .ensures) (c .before .if1 .left), test-refused (c .before .before .have-room .ensures) (c .if2 .taken))
 
 subtract-requires : tie.Need-subtract-requires
 subtract-requires c κs = let t = c .before .before .before in estimate-ready (first t) (second t) (counted t) (roomy t)

@@ -217,8 +217,9 @@ returns c =
 enroll-requires : tie.Need-enroll-requires Inv-loop μ-loop
 enroll-requires c κs =
     let other = c .before .before .before in
-    let p = head (other .before) .loop .inv in
-    (omega (arith, p .few, other .if1 .left, p .fit .sound .most), p .chains)
+    let l = head (other .before) in
+    let p = l .loop .inv in
+    (omega (arith, p .few, peeling-count (input l) (state l) p, other .if1 .left, p .fit .sound .most), p .chains)
 
 enter-requires : tie.Need-enter-requires Inv-loop μ-loop
 enter-requires c κs =

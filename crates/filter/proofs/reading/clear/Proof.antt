@@ -1,4 +1,5 @@
 -- `reading::clear` meets its contract: where a slice is too short nothing is changed, and else the clearing is the definition's. Assumes nothing.
+use mathlib.Core.Path.{refl}
 use denote.Ref.{now}
 use Rattle.bucket.specs.Columns.{columns}
 use Rattle.bucket.proofs.TestLaws.{test-refused, test-granted}
@@ -10,7 +11,7 @@ use Rattle.filter.proofs.reading.clear.Tie as tie
 
 returns : tie.Need-returns
 unfolding clearCall
-returns c = rw (test-refused (c .before .has-all-room .ensures) (c .if1 .taken))
+returns c = rw (test-refused (c .before .has-all-room .ensures) (c .if1 .taken)) refl
 
 clear-all-requires : tie.Need-clear-all-requires
 clear-all-requires c κs =

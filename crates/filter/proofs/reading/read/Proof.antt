@@ -1,6 +1,6 @@
 -- `reading::read` meets its contract: each early answer is the definition's at the test that failed, and behind them the difference is read.
 -- Assumes nothing.
-use mathlib.Core.Path.{_∙_}
+use mathlib.Core.Path.{refl, _∙_}
 use denote.Ref.{now}
 use Rattle.bucket.specs.Columns.{columns}
 use Rattle.bucket.proofs.TestLaws.{test-refused, test-granted}
@@ -9,6 +9,23 @@ use Rattle.filter.proofs.CallLaws.{Granted, read-ends, read-ready}
 use borrow.Author.Needs.{needs}
 use Rattle.filter.proofs.reading.read.Statement.{statement}
 use Rattle.filter.proofs.reading.read.Tie as tie
+
+returns : tie.Need-returns
+unfolding readCall readRefusal
+returns c = rw (test-refused (c .before .before .before .before .before .before .before .before .is-well-formed .ensures) (c .if1 .taken)) refl
+
+returns-2 : tie.Need-returns-2
+unfolding readCall readRefusal
+returns-2 c = rw (test-granted (c .before .before .before .before .before .before .before .before .before .is-well-formed .ensures) (c .before .if1 .left), test-refused (c .before .before .before .before .before .before .before .before .in-range .ensures) (c .if2 .taken)) refl
+
+returns-3 : tie.Need-returns-3
+unfolding readCall readRefusal
+returns-3 c =
+    rw (
+      test-granted (c .before .before .before .before .before .before .before .before .before .before .is-well-formed .ensures) (c .before .before .if1 .left),
+      test-granted (c .before .before .before .before .before .before .before .before .before .in-range .ensures) (c .before .if2 .left),
+      test-refused (c .before .before .before .has-all-room .ensures) (c .if3 .taken),
+    ) refl
 
 -- behind the three tests
 granted : (c : tie.Else3)
@@ -19,23 +36,6 @@ granted c = record {
   ranged = test-granted (c .before .before .before .before .before .before .before .before .before .in-range .ensures) (c .before .if2 .left);
   roomy = test-granted (c .before .before .before .has-all-room .ensures) (c .if3 .left);
 }
-
-returns : tie.Need-returns
-unfolding readCall readRefusal
-returns c = rw (test-refused (c .before .before .before .before .before .before .before .before .is-well-formed .ensures) (c .if1 .taken))
-
-returns-2 : tie.Need-returns-2
-unfolding readCall readRefusal
-returns-2 c = rw (test-granted (c .before .before .before .before .before .before .before .before .before .is-well-formed .ensures) (c .before .if1 .left), test-refused (c .before .before .before .before .before .before .before .before .in-range .ensures) (c .if2 .taken))
-
-returns-3 : tie.Need-returns-3
-unfolding readCall readRefusal
-returns-3 c =
-    rw (
-      test-granted (c .before .before .before .before .before .before .before .before .before .before .is-well-formed .ensures) (c .before .before .if1 .left),
-      test-granted (c .before .before .before .before .before .before .before .before .before .in-range .ensures) (c .before .if2 .left),
-      test-refused (c .before .before .before .has-all-room .ensures) (c .if3 .taken),
-    )
 
 read-difference-requires : tie.Need-read-difference-requires
 read-difference-requires c κs = read-ready (granted (c .before .before .before .before .before))

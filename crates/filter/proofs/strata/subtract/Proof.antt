@@ -10,7 +10,8 @@ use Rattle.filter.proofs.EstimateLaws.{
   subtracting-start,
   subtracting-lengths,
   subtracting-wide,
-  subtracting-fits,
+  count-less-fits,
+  small-here,
   subtracting-next,
   subtracting-end,
 }
@@ -94,7 +95,9 @@ sub-counts : tie.Need-sub-counts Inv-loop μ-loop
 sub-counts c =
     let l = c .before .before .before .before .before .before .before in
     let s = l .before in
-    subtracting-fits (s .args .n) (was l) (others l) (are l) (l .loop .i) (l .loop .inv) (omega arith) (s .pre .2) (s .pre .3)
+    let a = small-here (s .args .n) (was l) (others l) (are l) (l .loop .i) (l .loop .inv) (omega arith) (s .pre .2) (s .pre .3) in
+    let b = s .pre .3 .all (l .loop .i) (omega arith) in
+    search (count-less-fits, a, b)
 
 mul-t12 : tie.Need-mul-t12 Inv-loop μ-loop
 mul-t12 c = let w = wide (c .before .before .before .before .before .before .before) in omega arith

@@ -36,7 +36,7 @@ mul-is-below c = omega (arith, c .before .loop .inv .within, hashes-length (c .b
 is-below-requires : tie.Need-is-below-requires Inv-loop μ-loop
 is-below-requires c κs =
     let t = c .before .before .before .before .before .before .args .table .now in
-    (omega (arith, c .before .loop .inv .within, hashes-length t), omega arith)
+    omega (arith, c .before .loop .inv .within, hashes-length t)
 
 add-lo : tie.Need-add-lo Inv-loop μ-loop
 add-lo c =

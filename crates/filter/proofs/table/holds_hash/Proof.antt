@@ -29,8 +29,7 @@ mul-is-below : tie.Need-mul-is-below
 mul-is-below c = omega (arith, hashes-length (c .before .before .before .before .before .before .args .table .now))
 
 is-below-requires : tie.Need-is-below-requires
-is-below-requires c κs =
-    (omega arith, omega (arith, hashes-length (c .before .before .before .before .before .before .args .table .now)))
+is-below-requires c κs = omega (arith, hashes-length (c .before .before .before .before .before .before .args .table .now))
 
 returns-3 : tie.Need-returns-3
 returns-3 c =
