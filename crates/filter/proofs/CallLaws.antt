@@ -11,7 +11,7 @@ use lib.ListN.{length, take, drop, replicate, length-reverse, length-replicate}
 use lib.Seq.{take-append-seam, drop-drop, drop-at, drop-append-le}
 use native.Mathlib.Nat.{zero-add}
 use Rattle.bucket.specs.Bucket.{Bucket, 𝟎}
-use Rattle.bucket.specs.Columns.{Columns, columns, view}
+use Rattle.bucket.specs.Columns.{Columns, view}
 use Rattle.bucket.specs.Lists.{over, pad}
 use Rattle.bucket.proofs.OverLaws.{open-over, over-length}
 use Rattle.bucket.proofs.ListLaws.{pad-length}

@@ -45,15 +45,7 @@ use Rattle.filter.proofs.FilledLaws.{wide-of, view-filled-in}
 use Rattle.filter.proofs.IdLaws.{ids-distinct, ids-few, first-eight-below, ids-below}
 use Rattle.filter.proofs.MadeLaws.{made-counts, made-room}
 use Rattle.filter.proofs.SideLaws.{differing-self}
-use Rattle.filter.proofs.StratumLaws.{
-  total-cong,
-  estimate-listed,
-  strata-differing,
-  stratum-listed,
-  stratum-whole,
-  empty-clear,
-  empty-open,
-}
+use Rattle.filter.proofs.StratumLaws.{total-cong, estimate-listed, strata-differing, stratum-listed, stratum-whole, empty-clear, empty-open}
 
 -- the columns hold the estimator of a table
 abbrev pub MadeFrom : (ℕ → ℕ) → ℕ → List ℕ → Columns → Type 0

@@ -21,7 +21,7 @@ use Rattle.filter.specs.declared.answers.Verdict.the-variants.{Complete}
 use Rattle.filter.specs.Answers.{estimate}
 use Rattle.filter.specs.Lists.{rising, distinct, select, minus}
 use Rattle.filter.specs.Table.{hashAt, hashesOf, firstEight, idsOf, isTable}
-use Rattle.filter.specs.Filter.{Item, ours, Rule, touches, cell, put, sumAt, load, filterOf}
+use Rattle.filter.specs.Filter.{Item, Rule, touches, cell, put, sumAt, load, filterOf}
 use Rattle.filter.specs.Peeling.{isPure}
 use Rattle.filter.specs.Stopping.{differing, Clear, StoppingSet}
 use Rattle.filter.specs.Estimator.{estimatorRule, inStratum, stratumRule, less, strataVerdict, readingAt, readings, estimateOf, estimatorCall, estimateCall}

@@ -1,14 +1,12 @@
 -- The laws of an estimate: one estimator subtracted from another bucket by bucket, the difference's counts are small, and what the strata's
 -- readings say and leave goes by their own buckets alone, so that columns that hold the difference are read as it is. Assumes nothing.
-use mathlib.Core.Path.{_≡_, refl, ap, ap₂, _∙_, sym}
-use mathlib.Core.Bool.{Bool, true, false, _&&_, cond, and-eq-true-iff}
-use mathlib.Core.List.{List}
-use Prim.Native.Nat.{ℕ, zero, suc, _+_, _*_, _/_, _%_, _^_, _≤_, _<_, zero-le}
+use mathlib.Core.Path.{_≡_, ap, _∙_}
+use mathlib.Core.Bool.{true, _&&_, and-eq-true-iff}
+use Prim.Native.Nat.{ℕ, _+_, _*_, _^_, _≤_, _<_, zero-le}
 use native.Mathlib.Omega.{arith}
 use lib.Bits.{bitXor}
-use lib.Dec.{eqb}
 use lib.IntN.{ℤ, pos, negℤ, natAbs, _+ℤ_, _-ℤ_}
-use lib.ListN.{length, getD, set}
+use lib.ListN.{getD, set}
 use mir.Syntax.{w64}
 use mir.Val.{SFits, toZ, ofZ}
 use mir.ValLaws.{toZ-ofZ}
@@ -16,28 +14,9 @@ use Rattle.bucket.specs.Bucket.{Bucket, _⊕_, neg}
 use Rattle.bucket.specs.Columns.{Columns, columns, view, place}
 use Rattle.bucket.proofs.ColumnLaws.{SameLengths}
 use Rattle.bucket.proofs.SmallLaws.{small-fits}
-use Rattle.filter.specs.declared.answers.Verdict.{Verdict}
-use Rattle.filter.specs.declared.answers.Verdict.the-variants.{Complete, Stuck, False}
 use Rattle.filter.specs.Answers.{estimate}
-use Rattle.filter.specs.Filter.{Item}
-use Rattle.filter.specs.Peeling.{Outcome, verdictBy, isComplete}
 use Rattle.filter.specs.Calls.{areCounts, hasRoom, filled}
-use Rattle.filter.specs.Estimator.{
-  stratumRule,
-  stratum,
-  withStratum,
-  less,
-  strataVerdict,
-  readingAt,
-  readings,
-  estimateOf,
-  leftBy,
-  leftAt,
-  remaining,
-  estimateRefusal,
-  estimated,
-  estimateCall,
-}
+use Rattle.filter.specs.Estimator.{less, readings, estimateOf, remaining, estimateRefusal, estimated, estimateCall}
 use Rattle.filter.specs.Steps.{Wide, Small}
 use Rattle.filter.proofs.FilledLaws.{
   filled-none,

@@ -13,8 +13,7 @@ use Rattle.bucket.specs.Bucket.{Bucket, 𝟎, isZero}
 use Rattle.bucket.specs.Lists.{elem, Distinct}
 use Rattle.bucket.proofs.BucketLaws.{is-zero-zero}
 use Rattle.bucket.proofs.TestLaws.{and-fails, and-holds}
-use Rattle.filter.specs.declared.answers.Verdict.{Verdict}
-use Rattle.filter.specs.declared.answers.Verdict.the-variants.{Complete, Stuck, False}
+use Rattle.filter.specs.declared.answers.Verdict.the-variants.{Complete, Stuck}
 use Rattle.filter.specs.Lists.{select}
 use Rattle.filter.specs.Filter.{Item, ours, theirs, idOf, ids, oursOf, theirsOf, Rule, touches, sumAt, load, filterOf, difference}
 use Rattle.filter.specs.Peeling.{allZero, Outcome, agrees, isComplete, look, next, reading, verdict}

@@ -15,22 +15,7 @@ use Rattle.bucket.specs.Salt.{rot, salted, unsalted}
 use Rattle.bucket.proofs.PlaceLaws.{place-count-37}
 use Rattle.filter.specs.declared.answers.Verdict.the-variants.{Complete, Stuck}
 use Rattle.filter.specs.Lists.{select, minus}
-use Rattle.filter.specs.Filter.{
-  Item,
-  ours,
-  idOf,
-  oursOf,
-  theirsOf,
-  Rule,
-  filterRule,
-  touches,
-  cell,
-  put,
-  sumAt,
-  load,
-  filterOf,
-  difference,
-}
+use Rattle.filter.specs.Filter.{Item, ours, idOf, oursOf, theirsOf, Rule, filterRule, touches, cell, put, sumAt, load, filterOf, difference}
 use Rattle.filter.specs.Peeling.{first, allZero, agrees, isPure, look, remove, next, run, reading, verdict}
 use Rattle.filter.specs.Numbers.{worked}
 use Rattle.filter.specs.Stopping.{differing, Clear, StoppingSet}

@@ -1,6 +1,6 @@
 -- Laws of `filled`: which buckets are seen in columns whose first n buckets were replaced, that no column grows or shrinks, and that these two fix the columns. Assumes nothing.
 use mathlib.Core.Path.{_≡_, refl, sym, ap, ap₂, _∙_}
-use mathlib.Core.Bool.{Bool, true, false, cond, and-eq-true-iff}
+use mathlib.Core.Bool.{Bool, true, false, and-eq-true-iff}
 use mathlib.Core.List.{List}
 use Prim.Native.Nat.{ℕ, zero, suc, _+_, _≤_, _<_}
 use native.Mathlib.Numerals.{add-one}
@@ -89,13 +89,6 @@ view-filled-in (suc n) f c i w h = go (eqb i n) refl (view-filled-in n f c i (wi
         ∙ place-same (filled n f c) n (f n) (k .idsums) (k .hashsums) (k .counts)
         ∙ ap f (sym (eqb-true i n e))
     go false e ih = let ne = eqb-false i n e in place-other (filled n f c) n i (f n) ne ∙ ih (omega (arith, h, ne))
-
-pub view-filled : (n : ℕ) (f : ℕ → Bucket) (c : Columns) (i : ℕ) → Wide n c → view (filled n f c) i ≡ cond (ltb i n) (f i) (view c i)
-view-filled n f c i w = go (ltb i n) refl
-  where
-    go : (t : Bool) → ltb i n ≡ t → view (filled n f c) i ≡ cond t (f i) (view c i)
-    go true e = view-filled-in n f c i w (ltb-true i n e)
-    go false e = view-filled-out n f c i (ltb-false i n e)
 
 -- the lengths and the buckets fix the columns
 

@@ -26,18 +26,7 @@ use Rattle.filter.specs.declared.answers.Refusal.the-variants.{
 }
 use Rattle.filter.specs.Answers.{refusalNumber, firstOf}
 use Rattle.filter.specs.Table.{isTable}
-use Rattle.filter.specs.Calls.{
-  inRange,
-  areCounts,
-  hasRoom,
-  listedInto,
-  readRefusal,
-  unread,
-  readWith,
-  outcomeOf,
-  verdictOf,
-  readCall,
-}
+use Rattle.filter.specs.Calls.{inRange, areCounts, hasRoom, listedInto, readRefusal, unread, readWith, outcomeOf, verdictOf, readCall}
 
 -- only `None` has the number 0
 pub number-zero : (r : Refusal) → refusalNumber r ≡ 0 → r ≡ None

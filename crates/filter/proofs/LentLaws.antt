@@ -1,30 +1,25 @@
 -- A part of three columns, lent alone: what is seen in it, and the columns with it put back; and so one stratum of an estimator, to which an
 -- element is added or which is read. Assumes nothing.
 use mathlib.Core.Path.{_≡_, refl, sym, ap, ap₂, subst, _∙_}
-use mathlib.Core.Bool.{Bool, true, false, _&&_, cond}
+use mathlib.Core.Bool.{Bool, true, false, cond}
 use mathlib.Core.List.{List, _++_, map}
 use Prim.Native.Nat.{ℕ, _+_, _*_, _/_, _%_, _-_, _≤_, _<_}
 use native.Mathlib.Omega.{arith}
-use borrow.Author.Tests.{eq-eqb, ne-eqb, eqb-true, eqb-false, ltb-true, ltb-false}
+use borrow.Author.Tests.{eqb-true, eqb-false, ltb-true, ltb-false}
 use borrow.Rule.Slice.PartMut.{midOf, postOf, putMid, same-len-mid}
 use lib.Dec.{eqb, ltb}
 use lib.IntN.{ℤ, pos, natAbs}
 use lib.ListN.{length, getD, take, drop, length-drop, List·getD-append}
 use lib.Seq.{length-take-le, getD-take, getD-drop, getD-append-add}
-use Rattle.bucket.specs.Bucket.{Bucket, bucket, _⊕_, 𝟎}
+use Rattle.bucket.specs.Bucket.{Bucket, _⊕_, 𝟎}
 use Rattle.bucket.specs.Columns.{Columns, columns, view}
-use Rattle.bucket.specs.Counts.{stratumOf}
-use Rattle.bucket.specs.Crc.{crcOf}
 use Rattle.bucket.specs.Lists.{elem}
-use Rattle.bucket.specs.Places.{crcNext, places}
 use Rattle.bucket.proofs.BucketLaws.{bucket-same, ⊕-idr}
 use Rattle.bucket.proofs.ColumnLaws.{SameLengths}
-use Rattle.bucket.proofs.CountLaws.{stratum-le}
-use Rattle.bucket.proofs.PlaceLaws.{places-below}
 use Rattle.filter.specs.Filter.{Item}
 use Rattle.filter.specs.Peeling.{Outcome, isComplete, reading}
 use Rattle.filter.specs.Calls.{filled}
-use Rattle.filter.specs.Estimator.{estimatorRule, stratumRule, stratum, withStratum, strataVerdict, leftBy, leftAt, readingAt}
+use Rattle.filter.specs.Estimator.{stratumRule, stratum, withStratum, strataVerdict, leftBy, leftAt, readingAt}
 use Rattle.filter.specs.Steps.{Wide, Small, Counted, spread}
 use Rattle.filter.proofs.FilledLaws.{wide-less, filled-is-lengths, view-filled-in, filled-of, filled-cong}
 use Rattle.filter.proofs.PeelLaws.{reading-cong}

@@ -1,8 +1,8 @@
 -- The parts of the two calls, over variables: what they ask holds, and columns cleared or negated and then added to are the filter or
 -- the difference. Assumes nothing.
 use mathlib.Core.Path.{_≡_, sym, ap, ap₂, _∙_, subst}
-use mathlib.Core.Bool.{Bool, true, false, _&&_, cond, and-eq-true-iff}
-use mathlib.Core.List.{List, [], _∷_, map}
+use mathlib.Core.Bool.{true, _&&_, and-eq-true-iff}
+use mathlib.Core.List.{List}
 use Prim.Native.Nat.{ℕ, _≤_, _<_, _^_}
 use native.Mathlib.Omega.{arith}
 use borrow.Author.Tests.{leb-true, ltb-true}
@@ -10,11 +10,11 @@ use lib.Dec.{leb, ltb}
 use lib.IntN.{ℤ, pos, natAbs, negℤ}
 use lib.ListN.{length, getD}
 use Rattle.bucket.specs.Bucket.{Bucket, _⊕_, neg, 𝟎}
-use Rattle.bucket.specs.Columns.{Columns, columns, view}
+use Rattle.bucket.specs.Columns.{Columns, view}
 use Rattle.bucket.specs.Places.{placeCount}
 use Rattle.bucket.proofs.BucketLaws.{⊕-idl, ⊕-comm}
 use Rattle.bucket.proofs.PlaceLaws.{place-count-some, place-count-most}
-use Rattle.filter.specs.Filter.{ours, Rule, touches, cell, put, sumAt, filterOf, difference}
+use Rattle.filter.specs.Filter.{Rule, filterOf, difference}
 use Rattle.filter.specs.Calls.{inRange, areCounts, filled}
 use Rattle.filter.specs.Steps.{Wide, Small, Sound}
 use Rattle.filter.proofs.FilledLaws.{view-filled-in, filled-filled, filled-cong}

@@ -33,7 +33,6 @@ use Rattle.filter.specs.Peeling.{
   next,
   run,
   reading,
-  verdict,
 }
 use Rattle.filter.specs.Marks.{Least}
 use Rattle.filter.specs.Steps.{shows}
@@ -101,14 +100,6 @@ module _ (R : Rule) where
   pub look-not : (i : ℕ) (b : Bucket) → isPure R i b ≡ false → look R i b ≡ none
   unfolding look
   look-not i b e = ap (λ (t : Bool). cond t (some (shown b)) none) e
-
-  pub look-none : (i : ℕ) (b : Bucket) → look R i b ≡ none → isPure R i b ≡ false
-  unfolding look
-  look-none i b e = go (isPure R i b) e
-    where
-      go : (t : Bool) → cond t (some (shown b)) none ≡ none → t ≡ false
-      go true k = absurd (Option·some-ne-none (shown b) k)
-      go false k = refl
 
   pub look-some : (i : ℕ) (b : Bucket) (x : Item) → look R i b ≡ some x → isPure R i b ≡ true
   unfolding look
@@ -284,10 +275,6 @@ module _ (R : Rule) where
   pub reading-cong : (f g : ℕ → Bucket) → Same f g → Alike (reading R f) (reading R g)
   unfolding reading
   reading-cong f g s = rw (next-cong [] f g s) (run-cong (R .size) (next R [] g) [] f g s)
-
-  pub verdict-cong : (t : List ℕ) (r q : Outcome) → Alike r q → verdict R t r ≡ verdict R t q
-  unfolding verdict
-  verdict-cong t r q a = rw (a .fine, a .listed, all-zero-cong (r .rest) (q .rest) (R .size) (a .rest))
 
   -- ---- at most as many items are listed as peels are made
 

@@ -1,16 +1,15 @@
 -- The strata of an estimator: each is a filter of its own, of the IDs of that stratum; its reading, if complete, lists as many IDs as differ
 -- there; and the strata share out every list, so these are all that differ. Assumes nothing.
 use mathlib.Core.Path.{_≡_, refl, sym, ap, ap₂, _∙_}
-use mathlib.Core.Bool.{Bool, true, false, not, _&&_, _||_, cond, and-eq-true-iff, true≢false}
-use mathlib.Core.List.{List, [], _∷_, _++_, map, List·Memᴰ}
-use mathlib.Core.List.List·Memᴰ.{List·Memᴰ·head as head, List·Memᴰ·tail as tail}
+use mathlib.Core.Bool.{Bool, true, false, not, _&&_, cond, true≢false}
+use mathlib.Core.List.{List, [], _∷_, List·Memᴰ}
 use mathlib.Core.Logic.{_⊎_, inl, inr}
 use Prim.Native.Nat.{ℕ, zero, suc, _+_, _*_, _^_, _≤_, _<_}
 use native.Mathlib.Nat.{eq-or-lt-of-le, le-of-suc-le-suc}
 use native.Mathlib.Omega.{arith}
 use lib.Dec.{eqb}
 use lib.ListN.{length}
-use borrow.Author.Tests.{eqb-true, eq-eqb, ne-eqb}
+use borrow.Author.Tests.{eq-eqb, ne-eqb}
 use Rattle.bucket.specs.Bucket.{Bucket, _⊕_, _⊖_, 𝟎}
 use Rattle.bucket.specs.Counts.{stratumOf}
 use Rattle.bucket.specs.Crc.{crcOf}
@@ -19,9 +18,8 @@ use Rattle.bucket.specs.Places.{crcNext, places}
 use Rattle.bucket.specs.Salt.{salted}
 use Rattle.bucket.proofs.BucketLaws.{⊕-idl}
 use Rattle.bucket.proofs.CountLaws.{stratum-le}
-use Rattle.bucket.proofs.ListLaws.{elem-head, elem-tail, distinct-count}
+use Rattle.bucket.proofs.ListLaws.{distinct-count}
 use Rattle.bucket.proofs.PlaceLaws.{places-below}
-use Rattle.bucket.proofs.TestLaws.{and-fails, and-holds}
 use Rattle.filter.specs.declared.answers.Verdict.{Verdict}
 use Rattle.filter.specs.declared.answers.Verdict.the-variants.{Complete, Stuck}
 use Rattle.filter.specs.Lists.{select, minus}
@@ -29,7 +27,6 @@ use Rattle.filter.specs.Filter.{Item, ours, theirs, ids, oursOf, theirsO
 use Rattle.filter.specs.Peeling.{Outcome, allZero, agrees, verdictBy, isComplete, reading, verdict}
 use Rattle.filter.specs.Stopping.{differing, Clear, StoppingSet, Exactly}
 use Rattle.filter.specs.Estimator.{estimatorRule, inStratum, stratumRule, stratum, less, strataVerdict, readingAt, readings, estimateOf}
-use Rattle.filter.proofs.OrderLaws.{same-test}
 use Rattle.filter.proofs.SelectLaws.{elem-mem, mem-select, distinct-minus, minus-select, distinct-select}
 use Rattle.filter.proofs.SideLaws.{ours-mem, theirs-mem, distinct-ours, distinct-theirs, differing-ours, differing-theirs, sides-length, differing-length}
 use Rattle.filter.proofs.PeelLaws.{reading-cong}

@@ -11,18 +11,7 @@ use Rattle.bucket.proofs.BucketLaws.{⊕-assoc, ⊕-comm, ⊕-left-comm, ⊕-id
 use Rattle.filter.specs.Lists.{minus, select}
 use Rattle.filter.specs.Filter.{Item, ours, theirs, oursOf, theirsOf, Rule, touches, cell, put, sumAt, filterOf, difference}
 use Rattle.filter.specs.Stopping.{differing}
-use Rattle.filter.proofs.SelectLaws.{
-  Pick,
-  here,
-  there,
-  pick-map,
-  pick-minus,
-  minus-nil,
-  minus-skip,
-  minus-cons,
-  minus-other,
-  elem-mem,
-}
+use Rattle.filter.proofs.SelectLaws.{Pick, here, there, pick-map, pick-minus, minus-nil, minus-skip, minus-cons, minus-other, elem-mem}
 use Rattle.filter.proofs.SideLaws.{ours-of, theirs-of}
 
 module _ (R : Rule) where

@@ -1,13 +1,12 @@
 -- How the readings of strata are counted: one stratum lent alone, and all of them from the highest down, with the invariant of that loop.
 -- Assumes nothing.
-use mathlib.Core.Path.{_≡_, refl, sym, ap, ap₂, _∙_, subst, fun-ext}
+use mathlib.Core.Path.{_≡_, refl, sym, ap, ap₂, _∙_, subst}
 use mathlib.Core.Bool.{Bool, true, false, not, cond, false≢true}
 use mathlib.Core.Logic.{_≢_}
 use mathlib.Core.List.{List}
-use Prim.Native.Nat.{ℕ, zero, suc, _+_, _-_, _*_, _/_, _%_, _^_, _≤_, _<_}
+use Prim.Native.Nat.{ℕ, suc, _+_, _-_, _*_, _%_, _^_, _≤_, _<_}
 use native.Mathlib.Omega.{arith}
-use borrow.Author.Tests.{not-true, not-false, ltb-true, ltb-false, ne-eqb}
-use lib.Dec.{ltb}
+use borrow.Author.Tests.{not-true, not-false}
 use lib.IntN.{ℤ, natAbs}
 use lib.ListN.{length}
 use lib.Pow.{shl-exact}
@@ -16,18 +15,7 @@ use Rattle.bucket.specs.Columns.{Columns, view}
 use Rattle.bucket.proofs.ColumnLaws.{SameLengths}
 use Rattle.filter.specs.Peeling.{Outcome, allZero, verdictBy, isComplete}
 use Rattle.filter.specs.Calls.{filled}
-use Rattle.filter.specs.Estimator.{
-  stratumRule,
-  stratum,
-  withStratum,
-  strataVerdict,
-  readingAt,
-  readings,
-  estimateOf,
-  leftBy,
-  leftAt,
-  remaining,
-}
+use Rattle.filter.specs.Estimator.{strataVerdict, readingAt, readings, estimateOf, leftBy, leftAt, remaining}
 use Rattle.filter.specs.Repeats.{Chains}
 use Rattle.filter.specs.Steps.{Wide, Small, Peels, Counted}
 use Rattle.filter.proofs.FilledLaws.{
@@ -36,7 +24,6 @@ use Rattle.filter.proofs.FilledLaws.{
   filled-is-lengths,
   wide-same,
   view-filled-in,
-  view-filled-out,
   filled-cong,
   filled-filled,
   filled-view,

@@ -13,7 +13,7 @@
 --
 -- Stated over the salt, which is 0 in document 01; the stratum is then that of the ID itself (salted-none of proofs/StrataLaws).
 -- Assumes nothing.
-use mathlib.Core.Bool.{Bool, true, _&&_, cond}
+use mathlib.Core.Bool.{true, _&&_, cond}
 use mathlib.Core.List.{List, [], _∷_, map}
 use Prim.Native.Nat.{ℕ, zero, suc, _+_, _*_, _/_, _%_, _^_}
 use lib.Dec.{eqb}

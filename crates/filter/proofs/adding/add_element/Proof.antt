@@ -1,12 +1,10 @@
 -- `adding::add_element` meets its contract: the element's places lie in its stratum, so adding it to the stratum lent alone adds it to all of them.
 -- Assumes nothing.
-use mathlib.Core.Path.{sym, subst}
 use Prim.Native.Nat.{_+_, _*_, _^_, _≤_}
 use native.Mathlib.Omega.{arith}
 use borrow.Author.Needs.{needs}
 use Rattle.bucket.specs.Columns.{columns}
 use Rattle.bucket.specs.Counts.{stratumOf}
-use Rattle.filter.specs.Steps.{Wide, Small}
 use Rattle.filter.proofs.GatherLaws.{crc-given}
 use Rattle.filter.proofs.LayerLaws.{stratum-low, stratum-fits, element-wide, element-small, element-added}
 use Rattle.filter.proofs.adding.add_element.Statement.{statement}

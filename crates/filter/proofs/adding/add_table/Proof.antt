@@ -13,14 +13,7 @@ use Rattle.filter.specs.Table.{firstEight, idsOf}
 use Rattle.filter.specs.Steps.{layered}
 use Rattle.filter.proofs.SpreadLaws.{sound-any}
 use Rattle.filter.proofs.TableLaws.{hashes-length, ids-length}
-use Rattle.filter.proofs.GatherLaws.{
-  Gathered,
-  gathered-start,
-  gathered-wide,
-  gathered-small,
-  gathered-next,
-  gathered-end,
-}
+use Rattle.filter.proofs.GatherLaws.{Gathered, gathered-start, gathered-wide, gathered-small, gathered-next, gathered-end}
 use Rattle.filter.proofs.adding.add_table.Statement.{statement}
 use Rattle.filter.proofs.adding.add_table.Tie as tie
 

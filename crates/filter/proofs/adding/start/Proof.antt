@@ -1,10 +1,9 @@
 -- `adding::start` meets its contract: the stratum is capped at top, and the product stays far below 2^64. Assumes nothing.
-use mathlib.Core.Path.{_≡_, ap}
-use Prim.Native.Nat.{ℕ, _*_, _≤_, min}
+use mathlib.Core.Path.{ap}
+use Prim.Native.Nat.{ℕ, _*_, _≤_}
 use native.Mathlib.Nat.{mul-le-mul}
 use native.Mathlib.Omega.{arith}
 use borrow.Author.Needs.{needs}
-use Rattle.bucket.specs.Counts.{stratumOf}
 use Rattle.filter.proofs.adding.start.Statement.{statement}
 use Rattle.filter.proofs.adding.start.Tie as tie
 

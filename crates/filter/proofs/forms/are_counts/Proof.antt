@@ -1,6 +1,6 @@
 -- `forms::are_counts` meets its contract: what was found so far and the counts from i on decide, and past the end of the column nothing is left to test.
 -- Assumes nothing.
-use mathlib.Core.Path.{_≡_, ap, _∙_}
+use mathlib.Core.Path.{ap, _∙_}
 use Prim.Native.Nat.{_-_}
 use native.Mathlib.Omega.{arith}
 use borrow.Author.Needs.{needs}
