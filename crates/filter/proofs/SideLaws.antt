@@ -105,17 +105,17 @@ sides-apart l d a m n = sides-differ a a (key-same idOf l d (ours a) (theirs a) 
 
 -- ---- how many
 
+pub sides-length : (acc : List Item) → length (oursOf acc) + length (theirsOf acc) ≡ length acc
+unfolding oursOf theirsOf
+sides-length [] = refl
+sides-length (ours a ∷ l) = omega (arith, sides-length l)
+sides-length (theirs a ∷ l) = omega (arith, sides-length l)
+
 pub ours-few : (l : List Item) → length (oursOf l) ≤ length l
-unfolding oursOf
-ours-few [] = omega arith
-ours-few (ours a ∷ l) = omega (arith, ours-few l)
-ours-few (theirs a ∷ l) = omega (arith, ours-few l)
+ours-few l = omega (arith, sides-length l)
 
 pub theirs-few : (l : List Item) → length (theirsOf l) ≤ length l
-unfolding theirsOf
-theirs-few [] = omega arith
-theirs-few (ours a ∷ l) = omega (arith, theirs-few l)
-theirs-few (theirs a ∷ l) = omega (arith, theirs-few l)
+theirs-few l = omega (arith, sides-length l)
 
 -- ---- the true difference
 
@@ -166,14 +166,6 @@ differing-side t s (theirs a) m =
 
 pub differing-agrees : (t s : List ℕ) (l : List Item) → ((x : Item) → List·Memᴰ x l → List·Memᴰ x (differing t s)) → agrees t l ≡ true
 differing-agrees t s l h = agrees-of t l (λ x m. differing-side t s x (h x m))
-
--- ---- how many
-
-pub sides-length : (acc : List Item) → length (oursOf acc) + length (theirsOf acc) ≡ length acc
-unfolding oursOf theirsOf
-sides-length [] = refl
-sides-length (ours a ∷ l) = omega (arith, sides-length l)
-sides-length (theirs a ∷ l) = omega (arith, sides-length l)
 
 pub differing-length : (t s : List ℕ) → length (differing t s) ≡ length (minus t s) + length (minus s t)
 differing-length t s =

@@ -25,23 +25,8 @@ fits c =
     let s = c .before .before .before .before in
     omega (arith, c .start .ensures, stratum-fits (s .args .size) (s .args .top) (stratumOf (s .args .x)))
 
-add-e : tie.Need-add-e
-add-e c = omega (arith, low c, c .before .before .before .before .pre .1 .most)
-
-mul-add-to-places : tie.Need-mul-add-to-places
-mul-add-to-places c = omega (arith, low c)
-
-part-add-to-places-end : tie.Need-part-add-to-places-end
-part-add-to-places-end c = omega (arith, fits c, c .before .before .before .before .pre .3 .idsums)
-
-mul-add-to-places-2 : tie.Need-mul-add-to-places-2
-mul-add-to-places-2 c = omega (arith, low (c .before))
-
 part-add-to-places-end-2 : tie.Need-part-add-to-places-end-2
 part-add-to-places-end-2 c = omega (arith, fits (c .before), c .before .before .before .before .before .pre .3 .hashsums)
-
-mul-add-to-places-3 : tie.Need-mul-add-to-places-3
-mul-add-to-places-3 c = omega (arith, low (c .before .before))
 
 part-add-to-places-end-3 : tie.Need-part-add-to-places-end-3
 part-add-to-places-end-3 c = omega (arith, fits (c .before .before), c .before .before .before .before .before .before .pre .3 .counts)
@@ -73,6 +58,8 @@ pub add-element-spec : {M : Type 1} → statement M
 add-element-spec =
     tie.close
     (tie.spec
-    (λ c κs. search needs) start-requires add-e mul-add-to-places (λ c. search needs) (λ c. search needs) part-add-to-places-end
-    mul-add-to-places-2 (λ c. search needs) (λ c. search needs) part-add-to-places-end-2 mul-add-to-places-3 (λ c. search needs)
+    (λ c κs. search needs) start-requires (λ c. omega (arith, low c, c .before .before .before .before .pre .1 .most))
+    (λ c. omega (arith, low c)) (λ c. search needs) (λ c. search needs)
+    (λ c. omega (arith, fits c, c .before .before .before .before .pre .3 .idsums)) (λ c. omega (arith, low (c .before)))
+    (λ c. search needs) (λ c. search needs) part-add-to-places-end-2 (λ c. omega (arith, low (c .before .before))) (λ c. search needs)
     (λ c. search needs) part-add-to-places-end-3 add-to-places-requires (λ c. search needs) (λ c. search needs) (λ c. search needs) returns)

@@ -34,24 +34,6 @@ lengths c =
 inside : (c : tie.At-loop Inv-loop μ-loop) → Wide (c .before .args .n) (columns (c .loop .ids) (c .loop .hashes) (c .loop .counts))
 inside c = wide-same _ _ _ (lengths c) (c .before .pre)
 
-mul-ids : tie.Need-mul-ids Inv-loop μ-loop
-mul-ids c = let w = inside (c .before) in omega arith
-
-slice-write-ids : tie.Need-slice-write-ids Inv-loop μ-loop
-slice-write-ids c = let w = inside (c .before) in omega arith
-
-mul-hashes : tie.Need-mul-hashes Inv-loop μ-loop
-mul-hashes c = let w = inside (c .before) in omega arith
-
-slice-write-hashes : tie.Need-slice-write-hashes Inv-loop μ-loop
-slice-write-hashes c = let w = inside (c .before) in omega arith
-
-mul-counts : tie.Need-mul-counts Inv-loop μ-loop
-mul-counts c = let w = inside (c .before) in omega arith
-
-slice-set-of-counts : tie.Need-slice-set-of-counts Inv-loop μ-loop
-slice-set-of-counts c = let w = inside (c .before) in omega arith
-
 loop-again : tie.Need-loop-again Inv-loop μ-loop
 unfolding place 𝟎
 loop-again c =
@@ -82,5 +64,7 @@ pub clear-columns-spec : {M : Type 1} → statement M
 clear-columns-spec =
     tie.close
     (tie.spec
-    Inv-loop μ-loop loop-holds mul-ids slice-write-ids mul-hashes slice-write-hashes mul-counts slice-set-of-counts (λ c. search needs)
+    Inv-loop μ-loop loop-holds (λ c. let w = inside (c .before) in omega arith) (λ c. let w = inside (c .before) in omega arith)
+    (λ c. let w = inside (c .before) in omega arith) (λ c. let w = inside (c .before) in omega arith)
+    (λ c. let w = inside (c .before) in omega arith) (λ c. let w = inside (c .before) in omega arith) (λ c. search needs)
     (λ c. search needs) loop-again same-length same-length-2 same-length-3 returns)

@@ -21,12 +21,6 @@ abbrev μ-loop : tie.MeasureT-loop
 loop-holds : tie.Need-loop-holds Inv-loop μ-loop
 loop-holds c = (omega arith, laid-start 0 (c .args .xs .now))
 
-mul-xs : tie.Need-mul-xs Inv-loop μ-loop
-mul-xs c = omega (arith, c .before .loop .inv .1 .same)
-
-slice-write-xs : tie.Need-slice-write-xs Inv-loop μ-loop
-slice-write-xs c = omega (arith, c .before .loop .inv .1 .same)
-
 loop-again : tie.Need-loop-again Inv-loop μ-loop
 loop-again c =
     let i = c .before .loop .i in (
@@ -49,4 +43,5 @@ pub clear-list-spec : {M : Type 1} → statement M
 clear-list-spec =
     tie.close
     (tie.spec
-    Inv-loop μ-loop loop-holds mul-xs slice-write-xs (λ c. search needs) (λ c. search needs) loop-again same-length returns)
+    Inv-loop μ-loop loop-holds (λ c. omega (arith, c .before .loop .inv .1 .same)) (λ c. omega (arith, c .before .loop .inv .1 .same))
+    (λ c. search needs) (λ c. search needs) loop-again same-length returns)

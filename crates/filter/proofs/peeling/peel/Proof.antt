@@ -173,20 +173,8 @@ loop-holds c =
 least-requires : tie.Need-least-requires Inv-loop μ-loop
 least-requires c κs = c .before .loop-test .taken
 
-mul-x : tie.Need-mul-x Inv-loop μ-loop
-mul-x c = omega (arith, few c)
-
-slice-read-x : tie.Need-slice-read-x Inv-loop μ-loop
-slice-read-x c = omega (arith, inside (c .before), wide (turn (c .before)) .idsums)
-
-mul-h : tie.Need-mul-h Inv-loop μ-loop
-mul-h c = omega (arith, few (c .before))
-
 slice-read-h : tie.Need-slice-read-h Inv-loop μ-loop
 slice-read-h c = omega (arith, inside (c .before .before), wide (turn (c .before .before)) .hashsums)
-
-mul-s : tie.Need-mul-s Inv-loop μ-loop
-mul-s c = omega (arith, few (c .before .before))
 
 slice-copy-out-s : tie.Need-slice-copy-out-s Inv-loop μ-loop
 slice-copy-out-s c = omega (arith, inside (c .before .before), wide (turn (c .before .before)) .counts)
@@ -333,7 +321,9 @@ pub peel-spec : {M : Type 1} → statement M
 peel-spec =
     tie.close
     (tie.spec
-    Inv-loop μ-loop survey-requires loop-holds least-requires mul-x slice-read-x mul-h slice-read-h mul-s slice-copy-out-s
-    (λ c κs. search needs) same-length same-length-2 same-length-3 same-length-4 same-length-5 returns enroll-requires enter-requires
-    take-out-requires add-m loop-less loop-again same-length-6 same-length-7 same-length-8 same-length-9 same-length-10 returns-2
-    same-length-11 same-length-12 same-length-13 same-length-14 same-length-15 returns-3)
+    Inv-loop μ-loop survey-requires loop-holds least-requires (λ c. omega (arith, few c))
+    (λ c. omega (arith, inside (c .before), wide (turn (c .before)) .idsums)) (λ c. omega (arith, few (c .before))) slice-read-h
+    (λ c. omega (arith, few (c .before .before))) slice-copy-out-s (λ c κs. search needs) same-length same-length-2 same-length-3
+    same-length-4 same-length-5 returns enroll-requires enter-requires take-out-requires add-m loop-less loop-again same-length-6
+    same-length-7 same-length-8 same-length-9 same-length-10 returns-2 same-length-11 same-length-12 same-length-13 same-length-14
+    same-length-15 returns-3)

@@ -43,47 +43,8 @@ loop-holds c =
     let a = c .args in
     subtracting-start (a .n) (columns (a .ids .now) (a .hashes .now) (a .counts .now)) (columns (a .ids2 .now) (a .hashes2 .now) (a .counts2 .now))
 
-mul-ids : tie.Need-mul-ids Inv-loop μ-loop
-mul-ids c = let w = wide (c .before) in omega arith
-
-slice-read-ids : tie.Need-slice-read-ids Inv-loop μ-loop
-slice-read-ids c = let w = wide (c .before .before) in omega arith
-
-mul-ids-2 : tie.Need-mul-ids-2 Inv-loop μ-loop
-mul-ids-2 c = let w = wide (c .before .before) in omega arith
-
-shared-slice-read-ids : tie.Need-shared-slice-read-ids Inv-loop μ-loop
-shared-slice-read-ids c = let w = c .before .before .before .before .pre .1 in omega arith
-
-mul-ids-3 : tie.Need-mul-ids-3 Inv-loop μ-loop
-mul-ids-3 c = let w = wide (c .before .before .before) in omega arith
-
-slice-write-ids : tie.Need-slice-write-ids Inv-loop μ-loop
-slice-write-ids c = let w = wide (c .before .before .before) in omega arith
-
-mul-hashes : tie.Need-mul-hashes Inv-loop μ-loop
-mul-hashes c = let w = wide (c .before .before .before) in omega arith
-
-slice-read-hashes : tie.Need-slice-read-hashes Inv-loop μ-loop
-slice-read-hashes c = let w = wide (c .before .before .before .before) in omega arith
-
-mul-hashes-2 : tie.Need-mul-hashes-2 Inv-loop μ-loop
-mul-hashes-2 c = let w = wide (c .before .before .before .before) in omega arith
-
 shared-slice-read-hashes : tie.Need-shared-slice-read-hashes Inv-loop μ-loop
 shared-slice-read-hashes c = let w = c .before .before .before .before .before .before .pre .1 in omega arith
-
-mul-hashes-3 : tie.Need-mul-hashes-3 Inv-loop μ-loop
-mul-hashes-3 c = let w = wide (c .before .before .before .before .before) in omega arith
-
-slice-write-hashes : tie.Need-slice-write-hashes Inv-loop μ-loop
-slice-write-hashes c = let w = wide (c .before .before .before .before .before) in omega arith
-
-mul-c : tie.Need-mul-c Inv-loop μ-loop
-mul-c c = let w = wide (c .before .before .before .before .before) in omega arith
-
-slice-copy-out-c : tie.Need-slice-copy-out-c Inv-loop μ-loop
-slice-copy-out-c c = let w = wide (c .before .before .before .before .before) in omega arith
 
 mul-d : tie.Need-mul-d Inv-loop μ-loop
 mul-d c = let w = wide (c .before .before .before .before .before .before) in omega arith
@@ -129,6 +90,13 @@ pub subtract-spec : {M : Type 1} → statement M
 subtract-spec =
     tie.close
     (tie.spec
-    Inv-loop μ-loop loop-holds mul-ids slice-read-ids mul-ids-2 shared-slice-read-ids mul-ids-3 slice-write-ids mul-hashes slice-read-hashes
-    mul-hashes-2 shared-slice-read-hashes mul-hashes-3 slice-write-hashes mul-c slice-copy-out-c mul-d shared-slice-copy-out-d sub-counts
-    mul-t12 slice-set-from-counts (λ c. search needs) (λ c. search needs) loop-again same-length same-length-2 same-length-3 returns)
+    Inv-loop μ-loop loop-holds (λ c. let w = wide (c .before) in omega arith) (λ c. let w = wide (c .before .before) in omega arith)
+    (λ c. let w = wide (c .before .before) in omega arith) (λ c. let w = c .before .before .before .before .pre .1 in omega arith)
+    (λ c. let w = wide (c .before .before .before) in omega arith) (λ c. let w = wide (c .before .before .before) in omega arith)
+    (λ c. let w = wide (c .before .before .before) in omega arith) (λ c. let w = wide (c .before .before .before .before) in omega arith)
+    (λ c. let w = wide (c .before .before .before .before) in omega arith) shared-slice-read-hashes
+    (λ c. let w = wide (c .before .before .before .before .before) in omega arith)
+    (λ c. let w = wide (c .before .before .before .before .before) in omega arith)
+    (λ c. let w = wide (c .before .before .before .before .before) in omega arith)
+    (λ c. let w = wide (c .before .before .before .before .before) in omega arith) mul-d shared-slice-copy-out-d sub-counts mul-t12
+    slice-set-from-counts (λ c. search needs) (λ c. search needs) loop-again same-length same-length-2 same-length-3 returns)

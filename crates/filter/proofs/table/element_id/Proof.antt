@@ -16,12 +16,6 @@ returns c =
     let a = c .before .before .before .args in
     sym (id-past firstEight (a .table .now) (a .i) (omega (arith, hashes-length (a .table .now))))
 
-mul-eight-bytes : tie.Need-mul-eight-bytes
-mul-eight-bytes c = omega (arith, hashes-length (c .before .before .before .args .table .now))
-
-eight-bytes-requires : tie.Need-eight-bytes-requires
-eight-bytes-requires c κs = omega (arith, hashes-length (c .before .before .before .args .table .now))
-
 returns-2 : tie.Need-returns-2
 returns-2 c =
     let a = c .before .before .before .before .args in
@@ -30,4 +24,8 @@ returns-2 c =
     ∙ sym (id-at (a .table .now) (a .i) (omega (arith, hashes-length (a .table .now))))
 
 pub element-id-spec : {M : Type 1} → statement M
-element-id-spec = tie.close (tie.spec (λ c κs. search needs) returns mul-eight-bytes eight-bytes-requires returns-2)
+element-id-spec =
+    tie.close
+    (tie.spec
+    (λ c κs. search needs) returns (λ c. omega (arith, hashes-length (c .before .before .before .args .table .now)))
+    (λ c κs. omega (arith, hashes-length (c .before .before .before .args .table .now))) returns-2)
