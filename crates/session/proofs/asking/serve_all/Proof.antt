@@ -89,7 +89,7 @@ returns-3 c =
 add-marks : tie.Need-add-marks Inv-loop μ-loop
 add-marks c =
     let m = getD (c .before .before .before .before .before .before .before .before .loop .marks) (c .before .before .before .before .before .before .place-of-hash .result) 0 in
-    record { fits = unserved-room m (c .before .before .before .before .slice-known2 .given (c .before .before .before .before .before .before .place-of-hash .result) .fits) (sym (c .before .is-served .ensures) ∙ c .if3 .left) }
+    omega (arith, unserved-room m (c .before .before .before .before .slice-known2 .given (c .before .before .before .before .before .before .place-of-hash .result) .fits) (sym (c .before .is-served .ensures) ∙ c .if3 .left))
 
 slice-write-marks : tie.Need-slice-write-marks Inv-loop μ-loop
 slice-write-marks c = omega (arith, c .before .before .before .before .before .if1 .left, c .before .before .before .before .before .before .before .before .before .before .before .before .before .pre .0 .marks-room, c .before .before .before .before .before .before .before .before .loop .inv .same)
