@@ -1,5 +1,5 @@
 -- The bare numbers of document 01's session ("The session", "Refusal numbers"), each under the paper's words: a second statement beside the
--- definitions, by examples and by lists. Assumes nothing.
+-- definitions, by examples, lists and laws. Assumes nothing.
 use mathlib.Core.Path.{_≡_, refl}
 use mathlib.Core.Bool.{Bool, true, false, and-assoc, and-true}
 use mathlib.Core.List.{List, [], _∷_, _++_, map}
