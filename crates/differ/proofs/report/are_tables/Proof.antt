@@ -5,14 +5,8 @@ use borrow.Author.Needs.{needs}
 use Rattle.differ.proofs.report.are_tables.Statement.{statement}
 use Rattle.differ.proofs.report.are_tables.Tie as tie
 
-is-table-requires : tie.Need-is-table-requires
-is-table-requires c κs = search needs
-
-is-table-requires-2 : tie.Need-is-table-requires-2
-is-table-requires-2 c κs = search needs
-
 returns : tie.Need-returns
 returns c = ap₂ (λ (p q : Bool). p && q) (c .before .is-table .ensures) (c .is-table2 .ensures)
 
 pub are-tables-spec : {M : Type 1} → statement M
-are-tables-spec = tie.close (tie.spec is-table-requires is-table-requires-2 returns)
+are-tables-spec = tie.close (tie.spec (λ c κs. search needs) (λ c κs. search needs) returns)

@@ -8,24 +8,9 @@ use Rattle.differ.proofs.ReportLaws.{refusal-fits, size-small, compared
 use Rattle.differ.proofs.report.compare.Statement.{statement}
 use Rattle.differ.proofs.report.compare.Tie as tie
 
-are-tables-requires : tie.Need-are-tables-requires
-are-tables-requires c κs = search needs
-
-put-refusal-requires : tie.Need-put-refusal-requires
-put-refusal-requires c κs = omega (arith, refusal-fits 1 (omega arith))
-
-same-length : tie.Need-same-length
-same-length c = search needs
-
 returns : tie.Need-returns
 returns c =
     writes-as (compared-form (c .before .before .before .before .before .before .before .before .before .args .size) _ _ (test-refused (c .before .before .before .before .before .are-tables .ensures) (c .before .before .before .before .if1 .taken))) (c .before .before .put-refusal .ensures)
-
-put-refusal-requires-2 : tie.Need-put-refusal-requires-2
-put-refusal-requires-2 c κs = omega (arith, refusal-fits 3 (omega arith))
-
-same-length-2 : tie.Need-same-length-2
-same-length-2 c = search needs
 
 returns-2 : tie.Need-returns-2
 returns-2 c =
@@ -35,9 +20,6 @@ returns-2 c =
 
 show-requires : tie.Need-show-requires
 show-requires c κs = (size-small (c .before .before .before .before .before .before .before .args .size) (not-false _ (c .before .if2 .left)), omega arith)
-
-same-length-3 : tie.Need-same-length-3
-same-length-3 c = search needs
 
 returns-3 : tie.Need-returns-3
 returns-3 c =
@@ -49,13 +31,5 @@ pub compare-spec : {M : Type 1} → statement M
 compare-spec =
     tie.close
     (tie.spec
-    are-tables-requires
-    put-refusal-requires
-    same-length
-    returns
-    put-refusal-requires-2
-    same-length-2
-    returns-2
-    show-requires
-    same-length-3
-    returns-3)
+    (λ c κs. search needs) (λ c κs. omega (arith, refusal-fits 1 (omega arith))) (λ c. search needs) returns
+    (λ c κs. omega (arith, refusal-fits 3 (omega arith))) (λ c. search needs) returns-2 show-requires (λ c. search needs) returns-3)

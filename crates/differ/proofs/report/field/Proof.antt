@@ -9,9 +9,6 @@ use Prim.Native.Nat.{_*_, _<_}
 use Rattle.differ.proofs.report.field.Statement.{statement}
 use Rattle.differ.proofs.report.field.Tie as tie
 
-number-at-requires : tie.Need-number-at-requires
-number-at-requires c κs = search needs
-
 -- at most two bytes
 below : (c : tie.After-number-at) → c .number-at .result < 65536
 below c =
@@ -30,9 +27,4 @@ returns : tie.Need-returns
 returns c = (c .number-at .ensures, below c)
 
 pub field-spec : {M : Type 1} → statement M
-field-spec =
-    tie.close
-    (tie.spec
-    number-at-requires
-    cast-result
-    returns)
+field-spec = tie.close (tie.spec (λ c κs. search needs) cast-result returns)

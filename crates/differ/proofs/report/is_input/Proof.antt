@@ -9,27 +9,6 @@ use Rattle.differ.specs.Report.{isInput}
 use Rattle.differ.proofs.report.is_input.Statement.{statement}
 use Rattle.differ.proofs.report.is_input.Tie as tie
 
-field-requires : tie.Need-field-requires
-field-requires c κs = search needs
-
-cast-n : tie.Need-cast-n
-cast-n c = search needs
-
-field-requires-2 : tie.Need-field-requires-2
-field-requires-2 c κs = search needs
-
-cast-n-2 : tie.Need-cast-n-2
-cast-n-2 c = search needs
-
-add-n : tie.Need-add-n
-add-n c = search needs
-
-mul-result : tie.Need-mul-result
-mul-result c = search needs
-
-add-result : tie.Need-add-result
-add-result c = search needs
-
 returns : tie.Need-returns
 unfolding isInput
 returns c =
@@ -39,4 +18,6 @@ returns c =
 pub is-input-spec : {M : Type 1} → statement M
 is-input-spec =
     tie.close
-    (tie.spec field-requires cast-n field-requires-2 cast-n-2 add-n mul-result add-result returns)
+    (tie.spec
+    (λ c κs. search needs) (λ c. search needs) (λ c κs. search needs) (λ c. search needs) (λ c. search needs) (λ c. search needs)
+    (λ c. search needs) returns)

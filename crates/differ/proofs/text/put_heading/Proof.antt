@@ -8,9 +8,6 @@ use Rattle.differ.proofs.TextLaws.{heading-length, writes-three}
 use Rattle.differ.proofs.text.put_heading.Statement.{statement}
 use Rattle.differ.proofs.text.put_heading.Tie as tie
 
-slice-aggregate-put-bytes : tie.Need-slice-aggregate-put-bytes
-slice-aggregate-put-bytes c = search needs
-
 put-bytes-requires : tie.Need-put-bytes-requires
 put-bytes-requires c κs =
     let a = c .before .before .before .args in
@@ -21,9 +18,6 @@ put-decimal-requires c κs =
     let a = c .before .before .before .before .before .before .before .args in
     let w = c .before .before .before .put-bytes .ensures in
     omega (arith, heading-length (a .size) (a .complete), w .next, w .same)
-
-slice-aggregate-put-bytes-2 : tie.Need-slice-aggregate-put-bytes-2
-slice-aggregate-put-bytes-2 c = search needs
 
 put-bytes-requires-2 : tie.Need-put-bytes-requires-2
 put-bytes-requires-2 c κs =
@@ -40,9 +34,6 @@ put-decimal-requires-2 c κs =
     let y = c .before .before .before .put-bytes2 .ensures in
     omega (arith, heading-length (a .size) (a .complete), w .next, w .same, x .next, x .same, y .next, y .same)
 
-slice-aggregate-put-bytes-3 : tie.Need-slice-aggregate-put-bytes-3
-slice-aggregate-put-bytes-3 c = search needs
-
 put-bytes-requires-3 : tie.Need-put-bytes-requires-3
 put-bytes-requires-3 c κs =
     let a = c .before .before .before .before .before .before .before .before .before .before .before .before .before .before .before .before .before .before .before .before .before .args in
@@ -51,9 +42,6 @@ put-bytes-requires-3 c κs =
     let y = c .before .before .before .before .before .before .before .before .put-bytes2 .ensures in
     let z = c .before .before .before .before .put-decimal2 .ensures in
     omega (arith, heading-length (a .size) (a .complete), w .next, w .same, x .next, x .same, y .next, y .same, z .next, z .same)
-
-same-length : tie.Need-same-length
-same-length c = search needs
 
 returns : tie.Need-returns
 unfolding heading
@@ -71,13 +59,5 @@ pub put-heading-spec : {M : Type 1} → statement M
 put-heading-spec =
     tie.close
     (tie.spec
-    slice-aggregate-put-bytes
-    put-bytes-requires
-    put-decimal-requires
-    slice-aggregate-put-bytes-2
-    put-bytes-requires-2
-    put-decimal-requires-2
-    slice-aggregate-put-bytes-3
-    put-bytes-requires-3
-    same-length
-    returns)
+    (λ c. search needs) put-bytes-requires put-decimal-requires (λ c. search needs) put-bytes-requires-2 put-decimal-requires-2
+    (λ c. search needs) put-bytes-requires-3 (λ c. search needs) returns)

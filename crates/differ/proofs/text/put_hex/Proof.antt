@@ -10,15 +10,6 @@ use Rattle.differ.proofs.TextLaws.{hex-fewest, hex-length, writes-as}
 use Rattle.differ.proofs.text.put_hex.Statement.{statement}
 use Rattle.differ.proofs.text.put_hex.Tie as tie
 
-hex-requires : tie.Need-hex-requires
-hex-requires c κs = search needs
-
-array-share-prefix-text : tie.Need-array-share-prefix-text
-array-share-prefix-text c = search needs
-
-slice-aggregate-put-bytes : tie.Need-slice-aggregate-put-bytes
-slice-aggregate-put-bytes c = search needs
-
 -- the digits that `io` wrote
 spelled : (c : tie.After-hex) → take (c .hex .result) (c .hex .last .1 .1 .0) ≡ hex16 (c .before .before .before .args .x)
 unfolding hex16
@@ -29,9 +20,6 @@ spelled c =
 put-bytes-requires : tie.Need-put-bytes-requires
 put-bytes-requires c κs = omega (arith, ap length (spelled (c .before .before)), hex-length (c .before .before .before .before .before .args .x))
 
-same-length : tie.Need-same-length
-same-length c = search needs
-
 returns : tie.Need-returns
 returns c = writes-as (spelled (c .before .before .before .before .before)) (c .before .before .put-bytes .ensures)
 
@@ -39,9 +27,4 @@ pub put-hex-spec : {M : Type 1} → statement M
 put-hex-spec =
     tie.close
     (tie.spec
-    hex-requires
-    array-share-prefix-text
-    slice-aggregate-put-bytes
-    put-bytes-requires
-    same-length
-    returns)
+    (λ c κs. search needs) (λ c. search needs) (λ c. search needs) put-bytes-requires (λ c. search needs) returns)

@@ -15,18 +15,12 @@ put-hex-requires c κs =
     let w = c .before .before .before .put-bytes .ensures in
     omega (arith, line-length (a .label .now) (a .id), w .next, w .same)
 
-slice-aggregate-put-bytes : tie.Need-slice-aggregate-put-bytes
-slice-aggregate-put-bytes c = search needs
-
 put-bytes-requires-2 : tie.Need-put-bytes-requires-2
 put-bytes-requires-2 c κs =
     let a = c .before .before .before .before .before .before .before .before .before .before .before .before .args in
     let w = c .before .before .before .before .before .before .before .before .put-bytes .ensures in
     let v = c .before .before .before .before .put-hex .ensures in
     omega (arith, line-length (a .label .now) (a .id), hex-length (a .id), w .next, w .same, v .next, v .same)
-
-same-length : tie.Need-same-length
-same-length c = search needs
 
 returns : tie.Need-returns
 unfolding line
@@ -38,9 +32,4 @@ pub put-line-spec : {M : Type 1} → statement M
 put-line-spec =
     tie.close
     (tie.spec
-    put-bytes-requires
-    put-hex-requires
-    slice-aggregate-put-bytes
-    put-bytes-requires-2
-    same-length
-    returns)
+    put-bytes-requires put-hex-requires (λ c. search needs) put-bytes-requires-2 (λ c. search needs) returns)

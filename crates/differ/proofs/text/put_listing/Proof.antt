@@ -12,9 +12,6 @@ put-heading-requires c κs =
     let a = c .before .before .before .before .args in
     omega (arith, listing-length (a .size) (a .complete) (take (a .a) (a .ours .now)) (take (a .b) (a .theirs .now)))
 
-slice-aggregate-put-lines : tie.Need-slice-aggregate-put-lines
-slice-aggregate-put-lines c = search needs
-
 put-lines-requires : tie.Need-put-lines-requires
 put-lines-requires c κs =
     let a = c .before .before .before .before .before .before .before .before .before .args in
@@ -22,9 +19,6 @@ put-lines-requires c κs =
       omega arith,
       omega (arith, listing-length (a .size) (a .complete) (take (a .a) (a .ours .now)) (take (a .b) (a .theirs .now)), w .next, w .same),
     )
-
-slice-aggregate-put-lines-2 : tie.Need-slice-aggregate-put-lines-2
-slice-aggregate-put-lines-2 c = search needs
 
 put-lines-requires-2 : tie.Need-put-lines-requires-2
 put-lines-requires-2 c κs =
@@ -34,9 +28,6 @@ put-lines-requires-2 c κs =
       omega arith,
       omega (arith, listing-length (a .size) (a .complete) (take (a .a) (a .ours .now)) (take (a .b) (a .theirs .now)), w .next, w .same, x .next, x .same),
     )
-
-same-length : tie.Need-same-length
-same-length c = search needs
 
 returns : tie.Need-returns
 unfolding listing
@@ -49,10 +40,4 @@ pub put-listing-spec : {M : Type 1} → statement M
 put-listing-spec =
     tie.close
     (tie.spec
-    put-heading-requires
-    slice-aggregate-put-lines
-    put-lines-requires
-    slice-aggregate-put-lines-2
-    put-lines-requires-2
-    same-length
-    returns)
+    put-heading-requires (λ c. search needs) put-lines-requires (λ c. search needs) put-lines-requires-2 (λ c. search needs) returns)

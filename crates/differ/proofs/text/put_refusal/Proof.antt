@@ -6,28 +6,16 @@ use Rattle.differ.proofs.TextLaws.{refusal-length, writes-three}
 use Rattle.differ.proofs.text.put_refusal.Statement.{statement}
 use Rattle.differ.proofs.text.put_refusal.Tie as tie
 
-slice-aggregate-put-bytes : tie.Need-slice-aggregate-put-bytes
-slice-aggregate-put-bytes c = search needs
-
-put-bytes-requires : tie.Need-put-bytes-requires
-put-bytes-requires c κs = omega (arith, refusal-length (c .before .before .before .args .n))
-
 put-decimal-requires : tie.Need-put-decimal-requires
 put-decimal-requires c κs =
     let w = c .before .before .before .put-bytes .ensures in
     omega (arith, refusal-length (c .before .before .before .before .before .before .before .args .n), w .next, w .same)
-
-slice-aggregate-put-bytes-2 : tie.Need-slice-aggregate-put-bytes-2
-slice-aggregate-put-bytes-2 c = search needs
 
 put-bytes-requires-2 : tie.Need-put-bytes-requires-2
 put-bytes-requires-2 c κs =
     let w = c .before .before .before .before .before .before .before .before .put-bytes .ensures in
     let v = c .before .before .before .before .put-decimal .ensures in
     omega (arith, refusal-length (c .before .before .before .before .before .before .before .before .before .before .before .before .args .n), w .next, w .same, v .next, v .same)
-
-same-length : tie.Need-same-length
-same-length c = search needs
 
 returns : tie.Need-returns
 unfolding refusal
@@ -38,10 +26,5 @@ pub put-refusal-spec : {M : Type 1} → statement M
 put-refusal-spec =
     tie.close
     (tie.spec
-    slice-aggregate-put-bytes
-    put-bytes-requires
-    put-decimal-requires
-    slice-aggregate-put-bytes-2
-    put-bytes-requires-2
-    same-length
-    returns)
+    (λ c. search needs) (λ c κs. omega (arith, refusal-length (c .before .before .before .args .n))) put-decimal-requires
+    (λ c. search needs) put-bytes-requires-2 (λ c. search needs) returns)

@@ -13,18 +13,6 @@ use Rattle.message.proofs.WholeLaws.{packed-cons, packed-nil}
 use Rattle.message.proofs.copying.put_pair.Statement.{statement}
 use Rattle.message.proofs.copying.put_pair.Tie as tie
 
-put-number-requires : tie.Need-put-number-requires
-put-number-requires c κs = search needs
-
-add-put-number : tie.Need-add-put-number
-add-put-number c = search needs
-
-put-number-requires-2 : tie.Need-put-number-requires-2
-put-number-requires-2 c κs = search needs
-
-same-length : tie.Need-same-length
-same-length c = search needs
-
 returns : tie.Need-returns
 returns c =
     let a = c .before .before .before .before .before .before .before .before .before .args in
@@ -39,6 +27,4 @@ returns c =
     (sym (packed-cons (a .k) (a .x) (a .y ∷ []) ∙ ap (λ (q : List ℕ). groups 8 (a .k) (a .x) ++ q) (packed-cons (a .k) (a .y) [] ∙ ap (λ (q : List ℕ). groups 8 (a .k) (a .y) ++ q) (packed-nil (a .k)) ∙ append-nil (groups 8 (a .k) (a .y)))))
 
 pub put-pair-spec : {M : Type 1} → statement M
-put-pair-spec =
-    tie.close
-    (tie.spec put-number-requires add-put-number put-number-requires-2 same-length returns)
+put-pair-spec = tie.close (tie.spec (λ c κs. search needs) (λ c. search needs) (λ c κs. search needs) (λ c. search needs) returns)

@@ -10,9 +10,6 @@ use borrow.Author.Needs.{needs}
 use Rattle.message.proofs.fields.word_at.Statement.{statement}
 use Rattle.message.proofs.fields.word_at.Tie as tie
 
-number-at-requires : tie.Need-number-at-requires
-number-at-requires c κs = search needs
-
 cast-result : tie.Need-cast-result
 cast-result c =
     let a = c .before .before .args in
@@ -25,4 +22,4 @@ returns c =
     c .number-at .ensures ∙ ap (λ (n : ℕ). field n (a .at) (a .s .now)) (min-eq-right {n = a .k} {m = 8} (omega arith))
 
 pub word-at-spec : {M : Type 1} → statement M
-word-at-spec = tie.close (tie.spec number-at-requires cast-result returns)
+word-at-spec = tie.close (tie.spec (λ c κs. search needs) cast-result returns)

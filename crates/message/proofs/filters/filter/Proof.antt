@@ -22,26 +22,17 @@ ranged c = test-granted (c .before .in-range .ensures) (c .if2 .left)
 roomy : (c : tie.Else3) → let a = c .before .before .before .before .before .before .before .before .before .args in hasRoom (a .size) (columns (a .ids .now) (a .hashes .now) (a .counts .now)) ≡ true
 roomy c = test-granted (c .before .has-room .ensures) (c .if3 .left)
 
-are-counts-requires : tie.Need-are-counts-requires
-are-counts-requires c κs = search needs
-
 returns : tie.Need-returns
 returns c =
     let a = c .before .before .before .before .before .args in
     let cols = columns (a .ids .now) (a .hashes .now) (a .counts .now) in
     filter-not-counts (a .size) (a .salt) cols (a .at) (a .out .now) (test-refused (c .before .are-counts .ensures) (c .if1 .taken))
 
-in-range-requires : tie.Need-in-range-requires
-in-range-requires c κs = search needs
-
 returns-2 : tie.Need-returns-2
 returns-2 c =
     let a = c .before .before .before .before .before .before .before .args in
     let cols = columns (a .ids .now) (a .hashes .now) (a .counts .now) in
     filter-out-of-range (a .size) (a .salt) cols (a .at) (a .out .now) (counted (c .before .before)) (test-refused (c .before .in-range .ensures) (c .if2 .taken))
-
-has-room-requires : tie.Need-has-room-requires
-has-room-requires c κs = search needs
 
 returns-3 : tie.Need-returns-3
 returns-3 c =
@@ -54,9 +45,6 @@ width-for-requires c κs = (wide-of _ _ (roomy c) .counts, counted (c .before .b
 
 filter-bytes-requires : tie.Need-filter-bytes-requires
 filter-bytes-requires c κs = range-sound _ _ (ranged (c .before .before .before)) .most
-
-has-room-requires-2 : tie.Need-has-room-requires-2
-has-room-requires-2 c κs = search needs
 
 returns-4 : tie.Need-returns-4
 returns-4 c =
@@ -74,9 +62,6 @@ put-filter-requires c κs =
     filter-put (a .size) (a .salt) cols (a .at) (a .out .now) (counted (p .before .before .before .before)) (ranged (p .before .before)) (roomy p)
     (c .before .before .before .before .width-for .ensures) (c .before .before .before .filter-bytes .ensures) (test-granted (c .before .before .has-room2 .ensures) (c .before .if4 .left))
 
-same-length : tie.Need-same-length
-same-length c = search needs
-
 returns-5 : tie.Need-returns-5
 returns-5 c =
     let q = c .before .before .before .before in
@@ -91,16 +76,5 @@ pub filter-spec : {M : Type 1} → statement M
 filter-spec =
     tie.close
     (tie.spec
-    are-counts-requires
-    returns
-    in-range-requires
-    returns-2
-    has-room-requires
-    returns-3
-    width-for-requires
-    filter-bytes-requires
-    has-room-requires-2
-    returns-4
-    put-filter-requires
-    same-length
-    returns-5)
+    (λ c κs. search needs) returns (λ c κs. search needs) returns-2 (λ c κs. search needs) returns-3 width-for-requires
+    filter-bytes-requires (λ c κs. search needs) returns-4 put-filter-requires (λ c. search needs) returns-5)

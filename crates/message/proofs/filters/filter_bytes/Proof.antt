@@ -8,18 +8,6 @@ use Rattle.message.proofs.SliceLaws.{slice-bits, filter-bytes-large, fi
 use Rattle.message.proofs.filters.filter_bytes.Statement.{statement}
 use Rattle.message.proofs.filters.filter_bytes.Tie as tie
 
-in-slice-requires : tie.Need-in-slice-requires
-in-slice-requires c κs = search needs
-
-slice-bytes-requires : tie.Need-slice-bytes-requires
-slice-bytes-requires c κs = search needs
-
-in-slice-requires-2 : tie.Need-in-slice-requires-2
-in-slice-requires-2 c κs = search needs
-
-slice-bytes-requires-2 : tie.Need-slice-bytes-requires-2
-slice-bytes-requires-2 c κs = search needs
-
 add-result : tie.Need-add-result
 add-result c =
     let a = c .before .before .before .before .before .args in
@@ -47,10 +35,4 @@ pub filter-bytes-spec : {M : Type 1} → statement M
 filter-bytes-spec =
     tie.close
     (tie.spec
-    in-slice-requires
-    slice-bytes-requires
-    in-slice-requires-2
-    slice-bytes-requires-2
-    add-result
-    returns
-    returns-2)
+    (λ c κs. search needs) (λ c κs. search needs) (λ c κs. search needs) (λ c κs. search needs) add-result returns returns-2)

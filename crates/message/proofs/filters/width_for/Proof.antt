@@ -7,20 +7,14 @@ use Rattle.message.proofs.WidthLaws.{largest-small}
 use Rattle.message.proofs.filters.width_for.Statement.{statement}
 use Rattle.message.proofs.filters.width_for.Tie as tie
 
-largest-requires : tie.Need-largest-requires
-largest-requires c κs = search needs
-
 cast-width : tie.Need-cast-width
 cast-width c =
     let s = c .before in
     record { fits = rw (c .largest .ensures) (largest-small (s .args .n) (s .args .counts .now) (s .pre .1)) }
-
-width-requires : tie.Need-width-requires
-width-requires c κs = search needs
 
 returns : tie.Need-returns
 unfolding widthFor
 returns c = c .width .ensures ∙ ap widthOf (c .before .largest .ensures)
 
 pub width-for-spec : {M : Type 1} → statement M
-width-for-spec = tie.close (tie.spec largest-requires cast-width width-requires returns)
+width-for-spec = tie.close (tie.spec (λ c κs. search needs) cast-width (λ c κs. search needs) returns)

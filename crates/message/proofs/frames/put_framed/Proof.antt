@@ -12,21 +12,6 @@ use Rattle.message.proofs.WriteLaws.{frame-put}
 use Rattle.message.proofs.frames.put_framed.Statement.{statement}
 use Rattle.message.proofs.frames.put_framed.Tie as tie
 
-add-put-pair : tie.Need-add-put-pair
-add-put-pair c = search needs
-
-put-pair-requires : tie.Need-put-pair-requires
-put-pair-requires c κs = search needs
-
-add-copy : tie.Need-add-copy
-add-copy c = search needs
-
-copy-requires : tie.Need-copy-requires
-copy-requires c κs = search needs
-
-same-length : tie.Need-same-length
-same-length c = search needs
-
 returns : tie.Need-returns
 returns c =
     let a = c .before .before .before .before .before .before .before .before .before .before .args in
@@ -39,4 +24,6 @@ returns c =
 
 pub put-framed-spec : {M : Type 1} → statement M
 put-framed-spec =
-    tie.close (tie.spec add-put-pair put-pair-requires add-copy copy-requires same-length returns)
+    tie.close
+    (tie.spec
+    (λ c. search needs) (λ c κs. search needs) (λ c. search needs) (λ c κs. search needs) (λ c. search needs) returns)

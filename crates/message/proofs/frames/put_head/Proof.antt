@@ -13,24 +13,6 @@ use Rattle.message.proofs.WholeLaws.{whole-length}
 use Rattle.message.proofs.frames.put_head.Statement.{statement}
 use Rattle.message.proofs.frames.put_head.Tie as tie
 
-put-pair-requires : tie.Need-put-pair-requires
-put-pair-requires c κs = search needs
-
-add-put-pair : tie.Need-add-put-pair
-add-put-pair c = search needs
-
-put-pair-requires-2 : tie.Need-put-pair-requires-2
-put-pair-requires-2 c κs = search needs
-
-add-put-pair-2 : tie.Need-add-put-pair-2
-add-put-pair-2 c = search needs
-
-put-pair-requires-3 : tie.Need-put-pair-requires-3
-put-pair-requires-3 c κs = search needs
-
-same-length : tie.Need-same-length
-same-length c = search needs
-
 returns : tie.Need-returns
 unfolding headOf
 returns c =
@@ -50,10 +32,4 @@ pub put-head-spec : {M : Type 1} → statement M
 put-head-spec =
     tie.close
     (tie.spec
-    put-pair-requires
-    add-put-pair
-    put-pair-requires-2
-    add-put-pair-2
-    put-pair-requires-3
-    same-length
-    returns)
+    (λ c κs. search needs) (λ c. search needs) (λ c κs. search needs) (λ c. search needs) (λ c κs. search needs) (λ c. search needs) returns)

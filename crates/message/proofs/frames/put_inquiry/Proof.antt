@@ -15,33 +15,6 @@ use Rattle.message.proofs.WriteLaws.{inquiry-put}
 use Rattle.message.proofs.frames.put_inquiry.Statement.{statement}
 use Rattle.message.proofs.frames.put_inquiry.Tie as tie
 
-mul-put-pair : tie.Need-mul-put-pair
-mul-put-pair c = search needs
-
-add-put-pair : tie.Need-add-put-pair
-add-put-pair c = search needs
-
-cast-put-pair : tie.Need-cast-put-pair
-cast-put-pair c = search needs
-
-put-pair-requires : tie.Need-put-pair-requires
-put-pair-requires c κs = search needs
-
-add-put-number : tie.Need-add-put-number
-add-put-number c = search needs
-
-put-number-requires : tie.Need-put-number-requires
-put-number-requires c κs = search needs
-
-add-put-ids : tie.Need-add-put-ids
-add-put-ids c = search needs
-
-put-ids-requires : tie.Need-put-ids-requires
-put-ids-requires c κs = search needs
-
-same-length : tie.Need-same-length
-same-length c = search needs
-
 returns : tie.Need-returns
 returns c =
     let a = c .before .before .before .before .before .before .before .before .before .before .before .before .before .before .args in
@@ -64,13 +37,5 @@ pub put-inquiry-spec : {M : Type 1} → statement M
 put-inquiry-spec =
     tie.close
     (tie.spec
-    mul-put-pair
-    add-put-pair
-    cast-put-pair
-    put-pair-requires
-    add-put-number
-    put-number-requires
-    add-put-ids
-    put-ids-requires
-    same-length
-    returns)
+    (λ c. search needs) (λ c. search needs) (λ c. search needs) (λ c κs. search needs) (λ c. search needs) (λ c κs. search needs)
+    (λ c. search needs) (λ c κs. search needs) (λ c. search needs) returns)

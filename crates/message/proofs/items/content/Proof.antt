@@ -8,20 +8,8 @@ use borrow.Author.Needs.{needs}
 use Rattle.message.proofs.items.content.Statement.{statement}
 use Rattle.message.proofs.items.content.Tie as tie
 
-slice-aggregate-result : tie.Need-slice-aggregate-result
-slice-aggregate-result c = search needs
-
 returns : tie.Need-returns
 returns c = sym (drop-of-length-le (c .before .before .args .s .now) {i = 4} (omega arith))
-
-sub-result : tie.Need-sub-result
-sub-result c = search needs
-
-part-result-start : tie.Need-part-result-start
-part-result-start c = search needs
-
-part-result-end : tie.Need-part-result-end
-part-result-end c = search needs
 
 returns-2 : tie.Need-returns-2
 returns-2 c =
@@ -29,12 +17,4 @@ returns-2 c =
     take-all (length s - 4) (drop 4 s) (omega (arith, length-drop 4 s))
 
 pub content-spec : {M : Type 1} → statement M
-content-spec =
-    tie.close
-    (tie.spec
-    slice-aggregate-result
-    returns
-    sub-result
-    part-result-start
-    part-result-end
-    returns-2)
+content-spec = tie.close (tie.spec (λ c. search needs) returns (λ c. search needs) (λ c. search needs) (λ c. search needs) returns-2)

@@ -9,19 +9,9 @@ returns : tie.Need-returns
 unfolding counterOf
 returns c = rw (lt-leb _ 2520 (c .if1 .taken))
 
-mul-counter-at : tie.Need-mul-counter-at
-mul-counter-at c = search needs
-
-add-counter-at : tie.Need-add-counter-at
-add-counter-at c = search needs
-
-counter-at-requires : tie.Need-counter-at-requires
-counter-at-requires c κs = search needs
-
 returns-2 : tie.Need-returns-2
 unfolding counterOf
 returns-2 c = rw (le-leb _ 2520 (c .before .if1 .left)) (c .counter-at .ensures)
 
 pub counter-at-spec : {M : Type 1} → statement M
-counter-at-spec =
-    tie.close (tie.spec returns mul-counter-at add-counter-at counter-at-requires returns-2)
+counter-at-spec = tie.close (tie.spec returns (λ c. search needs) (λ c. search needs) (λ c κs. search needs) returns-2)

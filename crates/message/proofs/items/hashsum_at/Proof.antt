@@ -14,15 +14,6 @@ returns-2 : tie.Need-returns-2
 unfolding hashsumAt
 returns-2 c = rw (le-leb _ 2520 (c .before .if1 .left), le-ltb _ _ (c .if2 .taken))
 
-mul-item-at : tie.Need-mul-item-at
-mul-item-at c = search needs
-
-add-item-at : tie.Need-add-item-at
-add-item-at c = search needs
-
-item-at-requires : tie.Need-item-at-requires
-item-at-requires c κs = search needs
-
 cast-result : tie.Need-cast-result
 cast-result c = record { fits = rw (c .item-at .ensures) (number-below 4 _ _ _) }
 
@@ -33,4 +24,5 @@ returns-3 c = rw (le-leb _ 2520 (c .before .before .if1 .left), lt-ltb _ _ (c .b
 pub hashsum-at-spec : {M : Type 1} → statement M
 hashsum-at-spec =
     tie.close
-    (tie.spec returns returns-2 mul-item-at add-item-at item-at-requires cast-result returns-3)
+    (tie.spec
+    returns returns-2 (λ c. search needs) (λ c. search needs) (λ c κs. search needs) cast-result returns-3)

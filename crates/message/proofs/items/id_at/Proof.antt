@@ -4,12 +4,9 @@ use borrow.Author.Needs.{needs}
 use Rattle.message.proofs.items.id_at.Statement.{statement}
 use Rattle.message.proofs.items.id_at.Tie as tie
 
-item-at-requires : tie.Need-item-at-requires
-item-at-requires c κs = search needs
-
 returns : tie.Need-returns
 unfolding idAt
 returns c = c .item-at .ensures
 
 pub id-at-spec : {M : Type 1} → statement M
-id-at-spec = tie.close (tie.spec item-at-requires returns)
+id-at-spec = tie.close (tie.spec (λ c κs. search needs) returns)

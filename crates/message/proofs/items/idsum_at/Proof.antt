@@ -9,12 +9,9 @@ returns : tie.Need-returns
 unfolding idsumAt
 returns c = rw (le-ltb _ _ (c .if1 .taken))
 
-item-at-requires : tie.Need-item-at-requires
-item-at-requires c κs = search needs
-
 returns-2 : tie.Need-returns-2
 unfolding idsumAt
 returns-2 c = rw (lt-ltb _ _ (c .before .if1 .left)) (c .item-at .ensures)
 
 pub idsum-at-spec : {M : Type 1} → statement M
-idsum-at-spec = tie.close (tie.spec returns item-at-requires returns-2)
+idsum-at-spec = tie.close (tie.spec returns (λ c κs. search needs) returns-2)

@@ -16,23 +16,8 @@ within c = item-within (omega arith) (omega arith) (c .if2 .left)
 returns : tie.Need-returns
 returns c = let a = c .before .before .args in number-past (a .k) (a .from) (a .s .now) (a .i) (omega arith)
 
-sub-if2 : tie.Need-sub-if2
-sub-if2 c = search needs
-
-div-if2 : tie.Need-div-if2
-div-if2 c = search needs
-
 returns-2 : tie.Need-returns-2
 returns-2 c = let a = c .before .before .before .args in number-past (a .k) (a .from) (a .s .now) (a .i) (item-past (omega arith) (omega arith) (c .if2 .taken))
-
-mul-number-at : tie.Need-mul-number-at
-mul-number-at c = omega (arith, within c)
-
-add-number-at : tie.Need-add-number-at
-add-number-at c = omega (arith, within c)
-
-number-at-requires : tie.Need-number-at-requires
-number-at-requires c κs = search needs
 
 returns-3 : tie.Need-returns-3
 returns-3 c =
@@ -45,11 +30,5 @@ pub item-at-spec : {M : Type 1} → statement M
 item-at-spec =
     tie.close
     (tie.spec
-    returns
-    sub-if2
-    div-if2
-    returns-2
-    mul-number-at
-    add-number-at
-    number-at-requires
-    returns-3)
+    returns (λ c. search needs) (λ c. search needs) returns-2 (λ c. omega (arith, within c)) (λ c. omega (arith, within c))
+    (λ c κs. search needs) returns-3)

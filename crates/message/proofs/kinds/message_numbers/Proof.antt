@@ -3,54 +3,6 @@ use borrow.Author.Needs.{needs}
 use Rattle.message.proofs.kinds.message_numbers.Statement.{statement}
 use Rattle.message.proofs.kinds.message_numbers.Tie as tie
 
-enum-known-m : tie.Need-enum-known-m
-enum-known-m c = search needs
-
-found-requires : tie.Need-found-requires
-found-requires c κs = search needs
-
-enum-known-m-2 : tie.Need-enum-known-m-2
-enum-known-m-2 c = search needs
-
-found-requires-2 : tie.Need-found-requires-2
-found-requires-2 c κs = search needs
-
-enum-known-m-3 : tie.Need-enum-known-m-3
-enum-known-m-3 c = search needs
-
-found-requires-3 : tie.Need-found-requires-3
-found-requires-3 c κs = search needs
-
-enum-known-m-4 : tie.Need-enum-known-m-4
-enum-known-m-4 c = search needs
-
-found-requires-4 : tie.Need-found-requires-4
-found-requires-4 c κs = search needs
-
-enum-known-m-5 : tie.Need-enum-known-m-5
-enum-known-m-5 c = search needs
-
-found-requires-5 : tie.Need-found-requires-5
-found-requires-5 c κs = search needs
-
-enum-known-m-6 : tie.Need-enum-known-m-6
-enum-known-m-6 c = search needs
-
-found-requires-6 : tie.Need-found-requires-6
-found-requires-6 c κs = search needs
-
-enum-told : tie.Need-enum-told
-enum-told c = search needs
-
-found-requires-7 : tie.Need-found-requires-7
-found-requires-7 c κs = search needs
-
-enum-told-2 : tie.Need-enum-told-2
-enum-told-2 c = search needs
-
-numbered-requires : tie.Need-numbered-requires
-numbered-requires c κs = search needs
-
 returns : tie.Need-returns
 returns c = rw (c .before .before .m .given .1) (c .found .ensures)
 
@@ -79,27 +31,7 @@ pub message-numbers-spec : {M : Type 1} → statement M
 message-numbers-spec =
     tie.close
     (tie.spec
-    enum-known-m
-    found-requires
-    enum-known-m-2
-    found-requires-2
-    enum-known-m-3
-    found-requires-3
-    enum-known-m-4
-    found-requires-4
-    enum-known-m-5
-    found-requires-5
-    enum-known-m-6
-    found-requires-6
-    enum-told
-    found-requires-7
-    enum-told-2
-    numbered-requires
-    returns
-    returns-2
-    returns-3
-    returns-4
-    returns-5
-    returns-6
-    returns-7
-    returns-8)
+    (λ c. search needs) (λ c κs. search needs) (λ c. search needs) (λ c κs. search needs) (λ c. search needs) (λ c κs. search needs)
+    (λ c. search needs) (λ c κs. search needs) (λ c. search needs) (λ c κs. search needs) (λ c. search needs) (λ c κs. search needs)
+    (λ c. search needs) (λ c κs. search needs) (λ c. search needs) (λ c κs. search needs) returns returns-2 returns-3 returns-4 returns-5
+    returns-6 returns-7 returns-8)

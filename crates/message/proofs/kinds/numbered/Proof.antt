@@ -3,11 +3,8 @@ use borrow.Author.Needs.{needs}
 use Rattle.message.proofs.kinds.numbered.Statement.{statement}
 use Rattle.message.proofs.kinds.numbered.Tie as tie
 
-refusal-number-requires : tie.Need-refusal-number-requires
-refusal-number-requires c κs = search needs
-
 returns : tie.Need-returns
 returns c = rw (c .refusal-number .ensures)
 
 pub numbered-spec : {M : Type 1} → statement M
-numbered-spec = tie.close (tie.spec refusal-number-requires returns)
+numbered-spec = tie.close (tie.spec (λ c κs. search needs) returns)

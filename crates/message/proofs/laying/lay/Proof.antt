@@ -35,29 +35,11 @@ other (Element n) h = (refl, refl)
 other Done h = (refl, refl)
 other Malformed h = (refl, refl)
 
-read-requires : tie.Need-read-requires
-read-requires c κs = search needs
-
-enum-known-m : tie.Need-enum-known-m
-enum-known-m c = search needs
-
 lay-slice-requires : tie.Need-lay-slice-requires
 lay-slice-requires c κs = sliced-lays (shape _ (as-ibf (c .before .before .before .before)))
 
-enum-known-m-2 : tie.Need-enum-known-m-2
-enum-known-m-2 c = search needs
-
 lay-slice-requires-2 : tie.Need-lay-slice-requires-2
 lay-slice-requires-2 c κs = sliced-lays (shape _ (as-last (c .before .before .before .before)))
-
-same-length : tie.Need-same-length
-same-length c = search needs
-
-same-length-2 : tie.Need-same-length-2
-same-length-2 c = search needs
-
-same-length-3 : tie.Need-same-length-3
-same-length-3 c = search needs
 
 returns : tie.Need-returns
 returns c =
@@ -67,15 +49,6 @@ returns c =
     c .before .before .before .before .before .lay-slice .ensures
     ∙ lay-ibf (g .1 .0) (g .1 .1 .1 .0) (g .1 .1 .1 .1 .0) (a .s .now) cs (g .0) (g .1 .1 .0)
     ∙ lay-known (a .s .now) cs (as-ibf (c .before .before .before .before .before .before .before .before .before .before))
-
-same-length-4 : tie.Need-same-length-4
-same-length-4 c = search needs
-
-same-length-5 : tie.Need-same-length-5
-same-length-5 c = search needs
-
-same-length-6 : tie.Need-same-length-6
-same-length-6 c = search needs
 
 returns-2 : tie.Need-returns-2
 returns-2 c =
@@ -98,17 +71,5 @@ pub lay-spec : {M : Type 1} → statement M
 lay-spec =
     tie.close
     (tie.spec
-    read-requires
-    enum-known-m
-    lay-slice-requires
-    enum-known-m-2
-    lay-slice-requires-2
-    same-length
-    same-length-2
-    same-length-3
-    returns
-    same-length-4
-    same-length-5
-    same-length-6
-    returns-2
-    returns-3)
+    (λ c κs. search needs) (λ c. search needs) lay-slice-requires (λ c. search needs) lay-slice-requires-2 (λ c. search needs)
+    (λ c. search needs) (λ c. search needs) returns (λ c. search needs) (λ c. search needs) (λ c. search needs) returns-2 returns-3)

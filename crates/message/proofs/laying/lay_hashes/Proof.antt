@@ -22,30 +22,6 @@ loop-holds c =
     let a = c .before .before .args in
     (omega arith, laid-start (a .from) (a .hashes .now))
 
-mul-word-at : tie.Need-mul-word-at Inv-loop μ-loop
-mul-word-at c = search needs
-
-add-word-at : tie.Need-add-word-at Inv-loop μ-loop
-add-word-at c = search needs
-
-word-at-requires : tie.Need-word-at-requires Inv-loop μ-loop
-word-at-requires c κs = search needs
-
-add-hashes : tie.Need-add-hashes Inv-loop μ-loop
-add-hashes c = search needs
-
-mul-hashes : tie.Need-mul-hashes Inv-loop μ-loop
-mul-hashes c = search needs
-
-slice-write-hashes : tie.Need-slice-write-hashes Inv-loop μ-loop
-slice-write-hashes c = omega (arith, c .before .before .loop .inv .1 .same)
-
-add-j : tie.Need-add-j Inv-loop μ-loop
-add-j c = search needs
-
-loop-less : tie.Need-loop-less Inv-loop μ-loop
-loop-less c = search needs
-
 loop-again : tie.Need-loop-again Inv-loop μ-loop
 loop-again c =
     let a = c .before .before .before .before .before .args in
@@ -64,17 +40,5 @@ pub lay-hashes-spec : {M : Type 1} → statement M
 lay-hashes-spec =
     tie.close
     (tie.spec
-    Inv-loop
-    μ-loop
-    loop-holds
-    mul-word-at
-    add-word-at
-    word-at-requires
-    add-hashes
-    mul-hashes
-    slice-write-hashes
-    add-j
-    loop-less
-    loop-again
-    same-length
-    returns)
+    Inv-loop μ-loop loop-holds (λ c. search needs) (λ c. search needs) (λ c κs. search needs) (λ c. search needs) (λ c. search needs)
+    (λ c. omega (arith, c .before .before .loop .inv .1 .same)) (λ c. search needs) (λ c. search needs) loop-again same-length returns)

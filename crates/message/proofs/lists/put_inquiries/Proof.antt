@@ -19,26 +19,11 @@ abbrev μ-loop : tie.MeasureT-loop
 loop-holds : tie.Need-loop-holds Inv-loop μ-loop
 loop-holds c = let a = c .before .before .args in cutting-start 8190 8 8 (λ (l : List ℕ). layout (inquiry (a .salt) l)) _ _ _ (c .before .before .pre)
 
-sub-least : tie.Need-sub-least Inv-loop μ-loop
-sub-least c = search needs
-
-least-requires : tie.Need-least-requires Inv-loop μ-loop
-least-requires c κs = search needs
-
 put-inquiry-requires : tie.Need-put-inquiry-requires Inv-loop μ-loop
 put-inquiry-requires c κs = let k = c .before .before .before .loop .inv in (omega (arith, k .room), omega (arith, k .room))
 
-mul-p : tie.Need-mul-p Inv-loop μ-loop
-mul-p c = search needs
-
-add-p : tie.Need-add-p Inv-loop μ-loop
-add-p c = search needs
-
 add-p-2 : tie.Need-add-p-2 Inv-loop μ-loop
 add-p-2 c = let k = c .before .before .before .before .before .before .loop .inv in omega (arith, k .room)
-
-add-i : tie.Need-add-i Inv-loop μ-loop
-add-i c = search needs
 
 loop-less : tie.Need-loop-less Inv-loop μ-loop
 loop-less c = omega arith
@@ -60,17 +45,5 @@ pub put-inquiries-spec : {M : Type 1} → statement M
 put-inquiries-spec =
     tie.close
     (tie.spec
-    Inv-loop
-    μ-loop
-    loop-holds
-    sub-least
-    least-requires
-    put-inquiry-requires
-    mul-p
-    add-p
-    add-p-2
-    add-i
-    loop-less
-    loop-again
-    same-length
-    returns)
+    Inv-loop μ-loop loop-holds (λ c. search needs) (λ c κs. search needs) put-inquiry-requires (λ c. search needs) (λ c. search needs)
+    add-p-2 (λ c. search needs) loop-less loop-again same-length returns)

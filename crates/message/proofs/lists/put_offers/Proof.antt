@@ -58,29 +58,17 @@ loop-holds c =
     let a = c .before .before .args in
     (omega arith, omega arith, cutting-start 1023 4 64 (framedHashes (a .kind)) (a .at) (hashesOf (a .bytes .now)) (a .out .now) (c .before .before .pre .1))
 
-sub-least : tie.Need-sub-least Inv-loop μ-loop
-sub-least c = search needs
-
-least-requires : tie.Need-least-requires Inv-loop μ-loop
-least-requires c κs = search needs
-
 put-framed-requires : tie.Need-put-framed-requires Inv-loop μ-loop
 put-framed-requires c κs =
     let k = c .before .before .before .loop .inv .2 in
     let many = hashes-length (c .before .before .before .before .before .before .args .bytes .now) in
     (omega arith, omega (arith, k .room))
 
-add-p : tie.Need-add-p Inv-loop μ-loop
-add-p c = search needs
-
 add-p-2 : tie.Need-add-p-2 Inv-loop μ-loop
 add-p-2 c =
     let k = c .before .before .before .before .before .before .loop .inv .2 in
     let many = hashes-length (c .before .before .before .before .before .before .before .before .before .args .bytes .now) in
     omega (arith, k .room)
-
-add-i : tie.Need-add-i Inv-loop μ-loop
-add-i c = search needs
 
 loop-less : tie.Need-loop-less Inv-loop μ-loop
 loop-less c = omega arith
@@ -106,16 +94,5 @@ pub put-offers-spec : {M : Type 1} → statement M
 put-offers-spec =
     tie.close
     (tie.spec
-    Inv-loop
-    μ-loop
-    loop-holds
-    sub-least
-    least-requires
-    put-framed-requires
-    add-p
-    add-p-2
-    add-i
-    loop-less
-    loop-again
-    same-length
-    returns)
+    Inv-loop μ-loop loop-holds (λ c. search needs) (λ c κs. search needs) put-framed-requires (λ c. search needs) add-p-2
+    (λ c. search needs) loop-less loop-again same-length returns)

@@ -16,38 +16,20 @@ known c t e = typed (c .before .before .before .before .before .args .s .now) t 
 returns : tie.Need-returns
 returns c = short _ (c .if1 .taken)
 
-number-at-requires : tie.Need-number-at-requires
-number-at-requires c κs = search needs
-
 returns-2 : tie.Need-returns-2
 returns-2 c = other-size _ (λ e. c .if2 .taken (c .before .number-at .ensures ∙ e)) (c .before .before .if1 .left)
-
-word-at-requires : tie.Need-word-at-requires
-word-at-requires c κs = search needs
-
-read-slice-requires : tie.Need-read-slice-requires
-read-slice-requires c κs = search needs
 
 returns-3 : tie.Need-returns-3
 returns-3 c = c .read-slice .ensures ∙ rw (c .before .if3 .taken) at (known (c .before .before) (c .before .before .word-at .result) refl)
 
-read-inquiry-requires : tie.Need-read-inquiry-requires
-read-inquiry-requires c κs = search needs
-
 returns-4 : tie.Need-returns-4
 returns-4 c = c .read-inquiry .ensures ∙ known (c .before .before .before) INQUIRY (c .before .if4 .taken)
-
-hashes-fit-requires : tie.Need-hashes-fit-requires
-hashes-fit-requires c κs = search needs
 
 returns-5 : tie.Need-returns-5
 returns-5 c = rw (rw (c .before .hashes-fit .ensures) at (c .if6 .taken)) at (known (c .before .before .before .before .before) OFFER (c .before .before .if5 .taken))
 
 returns-6 : tie.Need-returns-6
 returns-6 c = rw (rw (c .before .hashes-fit .ensures) at (c .if6 .left)) at (known (c .before .before .before .before .before) OFFER (c .before .before .if5 .taken))
-
-hashes-fit-requires-2 : tie.Need-hashes-fit-requires-2
-hashes-fit-requires-2 c κs = search needs
 
 returns-7 : tie.Need-returns-7
 returns-7 c = rw (rw (c .before .hashes-fit2 .ensures) at (c .if8 .taken)) at (known (c .before .before .before .before .before .before) DEMAND (c .before .before .if7 .taken))
@@ -57,9 +39,6 @@ returns-8 c = rw (rw (c .before .hashes-fit2 .ensures) at (c .if8 .left)) at (kn
 
 returns-9 : tie.Need-returns-9
 returns-9 c = rw (lt-leb 5 _ (c .if10 .taken)) at (known (c .before .before .before .before .before .before) ELEMENT (c .before .if9 .taken))
-
-sub-t19 : tie.Need-sub-t19
-sub-t19 c = search needs
 
 returns-10 : tie.Need-returns-10
 returns-10 c = rw (le-leb 5 _ (c .if10 .left)) at (known (c .before .before .before .before .before .before) ELEMENT (c .before .if9 .taken))
@@ -86,23 +65,6 @@ pub read-spec : {M : Type 1} → statement M
 read-spec =
     tie.close
     (tie.spec
-    returns
-    number-at-requires
-    returns-2
-    word-at-requires
-    read-slice-requires
-    returns-3
-    read-inquiry-requires
-    returns-4
-    hashes-fit-requires
-    returns-5
-    returns-6
-    hashes-fit-requires-2
-    returns-7
-    returns-8
-    returns-9
-    sub-t19
-    returns-10
-    returns-11
-    returns-12
-    returns-13)
+    returns (λ c κs. search needs) returns-2 (λ c κs. search needs) (λ c κs. search needs) returns-3 (λ c κs. search needs) returns-4
+    (λ c κs. search needs) returns-5 returns-6 (λ c κs. search needs) returns-7 returns-8 returns-9 (λ c. search needs) returns-10
+    returns-11 returns-12 returns-13)

@@ -10,12 +10,6 @@ returns : tie.Need-returns
 unfolding parseInquiry
 returns c = rw (lt-leb 16 _ (c .if1 .taken))
 
-word-at-requires : tie.Need-word-at-requires
-word-at-requires c κs = search needs
-
-sub-t9 : tie.Need-sub-t9
-sub-t9 c = search needs
-
 returns-2 : tie.Need-returns-2
 returns-2 c = inquiry-whole (c .before .before .before .before .args .s .now) (c .before .before .if1 .left) (c .before .word-at .ensures) (c .if2 .taken)
 
@@ -23,4 +17,4 @@ returns-3 : tie.Need-returns-3
 returns-3 c = inquiry-torn (c .before .before .before .before .args .s .now) (c .before .before .if1 .left) (c .before .word-at .ensures) (c .if2 .left)
 
 pub read-inquiry-spec : {M : Type 1} → statement M
-read-inquiry-spec = tie.close (tie.spec returns word-at-requires sub-t9 returns-2 returns-3)
+read-inquiry-spec = tie.close (tie.spec returns (λ c κs. search needs) (λ c. search needs) returns-2 returns-3)

@@ -14,39 +14,12 @@ fields c = slice-fields (c .before .before .before .before .before .before .args
 returns : tie.Need-returns
 returns c = slice-short _ _ (c .if1 .taken)
 
-word-at-requires : tie.Need-word-at-requires
-word-at-requires c κs = search needs
-
-word-at-requires-2 : tie.Need-word-at-requires-2
-word-at-requires-2 c κs = search needs
-
-word-at-requires-3 : tie.Need-word-at-requires-3
-word-at-requires-3 c κs = search needs
-
-word-at-requires-4 : tie.Need-word-at-requires-4
-word-at-requires-4 c κs = search needs
-
-slice-fits-requires : tie.Need-slice-fits-requires
-slice-fits-requires c κs = search needs
-
 returns-2 : tie.Need-returns-2
 returns-2 c =
     let f = c .before .before in
     let a = f .before .before .before .before .before .before .args in
     slice-unfit (a .kind) (f .before .before .before .word-at .result) (f .before .before .word-at2 .result) (f .before .word-at3 .result) (f .word-at4 .result) (a .s .now) (test-refused (c .before .slice-fits .ensures) (c .if2 .taken))
     ∙ fields f
-
-in-slice-requires : tie.Need-in-slice-requires
-in-slice-requires c κs = search needs
-
-mul-spare-is-zero : tie.Need-mul-spare-is-zero
-mul-spare-is-zero c = search needs
-
-add-spare-is-zero : tie.Need-add-spare-is-zero
-add-spare-is-zero c = search needs
-
-spare-is-zero-requires : tie.Need-spare-is-zero-requires
-spare-is-zero-requires c κs = search needs
 
 returns-3 : tie.Need-returns-3
 returns-3 c =
@@ -55,9 +28,6 @@ returns-3 c =
     slice-spare (a .kind) (f .before .before .before .word-at .result) (f .before .before .word-at2 .result) (f .before .word-at3 .result) (f .word-at4 .result) (a .s .now) (c .before .before .in-slice .result) (c .before .before .in-slice .ensures)
     (test-granted (c .before .before .before .before .slice-fits .ensures) (c .before .before .before .if2 .left)) (test-refused (c .before .spare-is-zero .ensures) (c .if3 .taken))
     ∙ fields f
-
-slice-head-requires : tie.Need-slice-head-requires
-slice-head-requires c κs = search needs
 
 returns-4 : tie.Need-returns-4
 returns-4 c =
@@ -72,17 +42,5 @@ pub read-slice-spec : {M : Type 1} → statement M
 read-slice-spec =
     tie.close
     (tie.spec
-    returns
-    word-at-requires
-    word-at-requires-2
-    word-at-requires-3
-    word-at-requires-4
-    slice-fits-requires
-    returns-2
-    in-slice-requires
-    mul-spare-is-zero
-    add-spare-is-zero
-    spare-is-zero-requires
-    returns-3
-    slice-head-requires
-    returns-4)
+    returns (λ c κs. search needs) (λ c κs. search needs) (λ c κs. search needs) (λ c κs. search needs) (λ c κs. search needs) returns-2
+    (λ c κs. search needs) (λ c. search needs) (λ c. search needs) (λ c κs. search needs) returns-3 (λ c κs. search needs) returns-4)

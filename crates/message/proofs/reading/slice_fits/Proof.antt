@@ -3,18 +3,8 @@ use borrow.Author.Needs.{needs}
 use Rattle.message.proofs.reading.slice_fits.Statement.{statement}
 use Rattle.message.proofs.reading.slice_fits.Tie as tie
 
-in-slice-requires : tie.Need-in-slice-requires
-in-slice-requires c κs = search needs
-
-slice-type-requires : tie.Need-slice-type-requires
-slice-type-requires c κs = search needs
-
-slice-bytes-requires : tie.Need-slice-bytes-requires
-slice-bytes-requires c κs = search needs
-
 returns : tie.Need-returns
 returns c = rw (c .slice-bytes .ensures, c .before .slice-type .ensures, c .before .before .in-slice .ensures)
 
 pub slice-fits-spec : {M : Type 1} → statement M
-slice-fits-spec =
-    tie.close (tie.spec in-slice-requires slice-type-requires slice-bytes-requires returns)
+slice-fits-spec = tie.close (tie.spec (λ c κs. search needs) (λ c κs. search needs) (λ c κs. search needs) returns)

@@ -4,9 +4,6 @@ use borrow.Author.Needs.{needs}
 use Rattle.message.proofs.reading.slice_head.Statement.{statement}
 use Rattle.message.proofs.reading.slice_head.Tie as tie
 
-in-slice-requires : tie.Need-in-slice-requires
-in-slice-requires c κs = search needs
-
 returns : tie.Need-returns
 returns c = rw (c .before .in-slice .ensures, eq-eqb _ 567 (c .if1 .taken))
 
@@ -14,4 +11,4 @@ returns-2 : tie.Need-returns-2
 returns-2 c = rw (c .before .in-slice .ensures, ne-eqb _ 567 (c .if1 .left))
 
 pub slice-head-spec : {M : Type 1} → statement M
-slice-head-spec = tie.close (tie.spec in-slice-requires returns returns-2)
+slice-head-spec = tie.close (tie.spec (λ c κs. search needs) returns returns-2)

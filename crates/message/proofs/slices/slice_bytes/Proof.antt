@@ -5,12 +5,6 @@ use borrow.Author.Needs.{needs}
 use Rattle.message.proofs.slices.slice_bytes.Statement.{statement}
 use Rattle.message.proofs.slices.slice_bytes.Tie as tie
 
-mul-result : tie.Need-mul-result
-mul-result c = search needs
-
-add-result : tie.Need-add-result
-add-result c = search needs
-
 mul-result-2 : tie.Need-mul-result-2
 mul-result-2 c =
     let a = c .args in
@@ -29,9 +23,5 @@ add-result-3 c =
     let most = mul-le-mul {n₁ = a .width} {n₂ = 4294967296} (omega arith) (c .pre) in
     omega arith
 
-returns : tie.Need-returns
-returns c = search needs
-
 pub slice-bytes-spec : {M : Type 1} → statement M
-slice-bytes-spec =
-    tie.close (tie.spec mul-result add-result mul-result-2 add-result-2 add-result-3 returns)
+slice-bytes-spec = tie.close (tie.spec (λ c. search needs) (λ c. search needs) mul-result-2 add-result-2 add-result-3 (λ c. search needs))

@@ -4,12 +4,6 @@ use Rattle.message.proofs.ReadLaws.{reaches-end, stops-before}
 use Rattle.message.proofs.slices.slice_type.Statement.{statement}
 use Rattle.message.proofs.slices.slice_type.Tie as tie
 
-in-slice-requires : tie.Need-in-slice-requires
-in-slice-requires c κs = search needs
-
-add-if1 : tie.Need-add-if1
-add-if1 c = search needs
-
 returns : tie.Need-returns
 returns c = reaches-end _ _ (c .before .in-slice .ensures) (c .if1 .taken)
 
@@ -17,4 +11,4 @@ returns-2 : tie.Need-returns-2
 returns-2 c = stops-before _ _ (c .before .in-slice .ensures) (c .if1 .left)
 
 pub slice-type-spec : {M : Type 1} → statement M
-slice-type-spec = tie.close (tie.spec in-slice-requires add-if1 returns returns-2)
+slice-type-spec = tie.close (tie.spec (λ c κs. search needs) (λ c. search needs) returns returns-2)

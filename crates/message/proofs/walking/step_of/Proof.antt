@@ -24,9 +24,6 @@ found (Element n) start next h = refl
 found Done start next h = refl
 found Malformed start next h = absurd (miss (0 ∷ 1 ∷ 2 ∷ 3 ∷ 4 ∷ 5 ∷ 6 ∷ []) 7 tt h)
 
-enum-told : tie.Need-enum-told
-enum-told c = search needs
-
 returns : tie.Need-returns
 returns c = rw (c .enum-told .given .1)
 
@@ -34,4 +31,4 @@ returns-2 : tie.Need-returns-2
 returns-2 c = found (c .before .args .message) (c .before .args .start) (c .before .args .next) (c .match .keys2)
 
 pub step-of-spec : {M : Type 1} → statement M
-step-of-spec = tie.close (tie.spec enum-told returns returns-2)
+step-of-spec = tie.close (tie.spec (λ c. search needs) returns returns-2)

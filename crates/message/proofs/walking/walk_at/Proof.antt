@@ -14,34 +14,10 @@ use Rattle.message.proofs.walking.walk_at.Tie as tie
 returns : tie.Need-returns
 returns c = walk-end (c .before .before .args .s .now) (c .before .before .args .at) (c .if1 .taken)
 
-number-at-requires : tie.Need-number-at-requires
-number-at-requires c κs = search needs
-
-sub-left : tie.Need-sub-left
-sub-left c = search needs
-
 returns-2 : tie.Need-returns-2
 returns-2 c =
     let a = c .before .before .before .before .args in
     walk-broken (a .s .now) (a .at) (c .before .before .if1 .left) (rw (c .before .number-at .ensures) at (c .if2 .taken))
-
-add-end : tie.Need-add-end
-add-end c = search needs
-
-sub-read : tie.Need-sub-read
-sub-read c = search needs
-
-part-read-start : tie.Need-part-read-start
-part-read-start c = search needs
-
-part-read-end : tie.Need-part-read-end
-part-read-end c = search needs
-
-read-requires : tie.Need-read-requires
-read-requires c κs = search needs
-
-step-of-requires : tie.Need-step-of-requires
-step-of-requires c κs = search needs
 
 returns-3 : tie.Need-returns-3
 returns-3 c =
@@ -58,14 +34,5 @@ pub walk-at-spec : {M : Type 1} → statement M
 walk-at-spec =
     tie.close
     (tie.spec
-    returns
-    number-at-requires
-    sub-left
-    returns-2
-    add-end
-    sub-read
-    part-read-start
-    part-read-end
-    read-requires
-    step-of-requires
-    returns-3)
+    returns (λ c κs. search needs) (λ c. search needs) returns-2 (λ c. search needs) (λ c. search needs) (λ c. search needs)
+    (λ c. search needs) (λ c κs. search needs) (λ c κs. search needs) returns-3)

@@ -5,14 +5,8 @@ use Rattle.message.proofs.OfferLaws.{demand-says}
 use Rattle.message.proofs.writing.demand.Statement.{statement}
 use Rattle.message.proofs.writing.demand.Tie as tie
 
-hashes-as-requires : tie.Need-hashes-as-requires
-hashes-as-requires c κs = search needs
-
-same-length : tie.Need-same-length
-same-length c = search needs
-
 returns : tie.Need-returns
 returns c = c .before .before .hashes-as .ensures demand demand-says
 
 pub demand-spec : {M : Type 1} → statement M
-demand-spec = tie.close (tie.spec hashes-as-requires same-length returns)
+demand-spec = tie.close (tie.spec (λ c κs. search needs) (λ c. search needs) returns)

@@ -32,9 +32,6 @@ returns : tie.Need-returns
 unfolding doneCall wrote
 returns c = let a = c .before .before .before .args in rw (lt-leb 64 (length (a .check .now)) (omega arith))
 
-has-room-requires : tie.Need-has-room-requires
-has-room-requires c κs = search needs
-
 returns-2 : tie.Need-returns-2
 unfolding doneCall wrote
 returns-2 c =
@@ -44,15 +41,6 @@ returns-2 c =
       le-leb 64 (length (a .check .now)) (omega arith),
       room-tested (done x ∷ []) (a .at) (a .out .now) 68 (size x) (test-refused (c .before .has-room .ensures) (c .if2 .taken)),
     )
-
-put-framed-requires : tie.Need-put-framed-requires
-put-framed-requires c κs = (omega arith, omega (arith, room (c .before)))
-
-add-t4 : tie.Need-add-t4
-add-t4 c = omega (arith, room (c .before .before .before .before))
-
-same-length : tie.Need-same-length
-same-length c = search needs
 
 returns-3 : tie.Need-returns-3
 unfolding doneCall
@@ -70,4 +58,6 @@ returns-3 c =
 pub done-spec : {M : Type 1} → statement M
 done-spec =
     tie.close
-    (tie.spec returns has-room-requires returns-2 put-framed-requires add-t4 same-length returns-3)
+    (tie.spec
+    returns (λ c κs. search needs) returns-2 (λ c κs. (omega arith, omega (arith, room (c .before))))
+    (λ c. omega (arith, room (c .before .before .before .before))) (λ c. search needs) returns-3)

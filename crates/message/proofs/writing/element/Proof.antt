@@ -27,12 +27,6 @@ size bytes = ap length (laid bytes) ∙ framed-length 566 bytes
 room : (c : tie.Else1) → let a = c .before .before .before .before .args in a .at + (4 + length (a .content .now)) ≤ length (a .out .now)
 room c = room-there _ _ _ (c .before .has-room .ensures) (c .if1 .left)
 
-add-has-room : tie.Need-add-has-room
-add-has-room c = search needs
-
-has-room-requires : tie.Need-has-room-requires
-has-room-requires c κs = search needs
-
 returns : tie.Need-returns
 unfolding elementCall wrote
 returns c =
@@ -60,18 +54,6 @@ returns-3 c =
       lt-leb (length bytes) 65531 (omega arith),
     )
 
-put-framed-requires : tie.Need-put-framed-requires
-put-framed-requires c κs = (omega arith, omega (arith, room (c .before .before .before)))
-
-add-t6 : tie.Need-add-t6
-add-t6 c = omega (arith, room (c .before .before .before .before .before .before))
-
-add-t7 : tie.Need-add-t7
-add-t7 c = omega (arith, room (c .before .before .before .before .before .before))
-
-same-length : tie.Need-same-length
-same-length c = search needs
-
 returns-4 : tie.Need-returns-4
 unfolding elementCall
 returns-4 c =
@@ -90,13 +72,7 @@ pub element-spec : {M : Type 1} → statement M
 element-spec =
     tie.close
     (tie.spec
-    add-has-room
-    has-room-requires
-    returns
-    returns-2
-    returns-3
-    put-framed-requires
-    add-t6
-    add-t7
-    same-length
-    returns-4)
+    (λ c. search needs) (λ c κs. search needs) returns returns-2 returns-3
+    (λ c κs. (omega arith, omega (arith, room (c .before .before .before))))
+    (λ c. omega (arith, room (c .before .before .before .before .before .before)))
+    (λ c. omega (arith, room (c .before .before .before .before .before .before))) (λ c. search needs) returns-4)

@@ -16,12 +16,6 @@ room c = room-there _ _ _ (c .before .has-room .ensures) (c .if2 .left)
 returns : tie.Need-returns
 returns c say says = let a = c .before .before .before .args in hashes-torn say (a .kind) says (a .hashes .now) (a .at) (a .out .now) (c .if1 .taken)
 
-hashes-bytes-requires : tie.Need-hashes-bytes-requires
-hashes-bytes-requires c κs = search needs
-
-has-room-requires : tie.Need-has-room-requires
-has-room-requires c κs = search needs
-
 returns-2 : tie.Need-returns-2
 returns-2 c say says =
     let a = c .before .before .before .before .before .before .args in
@@ -31,12 +25,6 @@ put-offers-requires : tie.Need-put-offers-requires
 put-offers-requires c κs =
     let many = hashes-length (c .before .before .before .before .before .before .before .args .hashes .now) in
     (c .before .before .before .before .if1 .left, omega (arith, room (c .before)))
-
-add-t6 : tie.Need-add-t6
-add-t6 c = omega (arith, room (c .before .before .before .before))
-
-same-length : tie.Need-same-length
-same-length c = search needs
 
 returns-3 : tie.Need-returns-3
 returns-3 c say says =
@@ -48,11 +36,5 @@ pub hashes-as-spec : {M : Type 1} → statement M
 hashes-as-spec =
     tie.close
     (tie.spec
-    returns
-    hashes-bytes-requires
-    has-room-requires
-    returns-2
-    put-offers-requires
-    add-t6
-    same-length
-    returns-3)
+    returns (λ c κs. search needs) (λ c κs. search needs) returns-2 put-offers-requires
+    (λ c. omega (arith, room (c .before .before .before .before))) (λ c. search needs) returns-3)

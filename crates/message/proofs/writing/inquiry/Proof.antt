@@ -30,21 +30,6 @@ returns : tie.Need-returns
 unfolding inquiryCall wrote
 returns c = let a = c .before .before .before .args in rw (le-ltb (a .salt) 64 (omega arith))
 
-add-total : tie.Need-add-total
-add-total c = search needs
-
-mul-total : tie.Need-mul-total
-mul-total c = search needs
-
-mul-total-2 : tie.Need-mul-total-2
-mul-total-2 c = search needs
-
-add-total-2 : tie.Need-add-total-2
-add-total-2 c = search needs
-
-has-room-requires : tie.Need-has-room-requires
-has-room-requires c κs = search needs
-
 returns-2 : tie.Need-returns-2
 unfolding inquiryCall wrote
 returns-2 c =
@@ -57,12 +42,6 @@ returns-2 c =
 
 put-inquiries-requires : tie.Need-put-inquiries-requires
 put-inquiries-requires c κs = room (c .before)
-
-add-t11 : tie.Need-add-t11
-add-t11 c = omega (arith, room (c .before .before .before .before))
-
-same-length : tie.Need-same-length
-same-length c = search needs
 
 returns-3 : tie.Need-returns-3
 unfolding inquiryCall
@@ -79,14 +58,5 @@ pub inquiry-spec : {M : Type 1} → statement M
 inquiry-spec =
     tie.close
     (tie.spec
-    returns
-    add-total
-    mul-total
-    mul-total-2
-    add-total-2
-    has-room-requires
-    returns-2
-    put-inquiries-requires
-    add-t11
-    same-length
-    returns-3)
+    returns (λ c. search needs) (λ c. search needs) (λ c. search needs) (λ c. search needs) (λ c κs. search needs) returns-2
+    put-inquiries-requires (λ c. omega (arith, room (c .before .before .before .before))) (λ c. search needs) returns-3)

@@ -5,14 +5,8 @@ use Rattle.message.proofs.OfferLaws.{offer-says}
 use Rattle.message.proofs.writing.offer.Statement.{statement}
 use Rattle.message.proofs.writing.offer.Tie as tie
 
-hashes-as-requires : tie.Need-hashes-as-requires
-hashes-as-requires c κs = search needs
-
-same-length : tie.Need-same-length
-same-length c = search needs
-
 returns : tie.Need-returns
 returns c = c .before .before .hashes-as .ensures offer offer-says
 
 pub offer-spec : {M : Type 1} → statement M
-offer-spec = tie.close (tie.spec hashes-as-requires same-length returns)
+offer-spec = tie.close (tie.spec (λ c κs. search needs) (λ c. search needs) returns)

@@ -17,27 +17,6 @@ abbrev μ-loop : tie.MeasureT-loop
 loop-holds : tie.Need-loop-holds Inv-loop μ-loop
 loop-holds c = (omega arith, omega arith, chain-none crcNext 1)
 
-cast-crc : tie.Need-cast-crc Inv-loop μ-loop
-cast-crc c = search needs
-
-mul-crc : tie.Need-mul-crc Inv-loop μ-loop
-mul-crc c = search needs
-
-cast-crc-2 : tie.Need-cast-crc-2 Inv-loop μ-loop
-cast-crc-2 c = search needs
-
-add-crc : tie.Need-add-crc Inv-loop μ-loop
-add-crc c = search needs
-
-crc-requires : tie.Need-crc-requires Inv-loop μ-loop
-crc-requires c κs = search needs
-
-add-i : tie.Need-add-i Inv-loop μ-loop
-add-i c = search needs
-
-loop-less : tie.Need-loop-less Inv-loop μ-loop
-loop-less c = search needs
-
 loop-again : tie.Need-loop-again Inv-loop μ-loop
 loop-again c =
     let at = c .before .before .loop in
@@ -52,15 +31,5 @@ pub tandawire-bench-crc-spec : {M : Type 1} → statement M
 tandawire-bench-crc-spec =
     tie.close
     (tie.spec
-    Inv-loop
-    μ-loop
-    loop-holds
-    cast-crc
-    mul-crc
-    cast-crc-2
-    add-crc
-    crc-requires
-    add-i
-    loop-less
-    loop-again
-    returns)
+    Inv-loop μ-loop loop-holds (λ c. search needs) (λ c. search needs) (λ c. search needs) (λ c. search needs) (λ c κs. search needs)
+    (λ c. search needs) (λ c. search needs) loop-again returns)

@@ -16,32 +16,8 @@ Inv-loop n tab d₀ i₀ d i = (i ≤ n) × (d < 2 ^ 32) × (d ≡ draw crcNext 
 abbrev μ-loop : tie.MeasureT-loop
 μ-loop n tab d₀ i₀ d i = n - i
 
-tables-requires : tie.Need-tables-requires Inv-loop μ-loop
-tables-requires c κs = search needs
-
 loop-holds : tie.Need-loop-holds Inv-loop μ-loop
 loop-holds c = (omega arith, omega arith, chain-none crcNext 1)
-
-cast-crc-by : tie.Need-cast-crc-by Inv-loop μ-loop
-cast-crc-by c = search needs
-
-mul-crc-by : tie.Need-mul-crc-by Inv-loop μ-loop
-mul-crc-by c = search needs
-
-cast-crc-by-2 : tie.Need-cast-crc-by-2 Inv-loop μ-loop
-cast-crc-by-2 c = search needs
-
-add-crc-by : tie.Need-add-crc-by Inv-loop μ-loop
-add-crc-by c = search needs
-
-crc-by-requires : tie.Need-crc-by-requires Inv-loop μ-loop
-crc-by-requires c κs = search needs
-
-add-i : tie.Need-add-i Inv-loop μ-loop
-add-i c = search needs
-
-loop-less : tie.Need-loop-less Inv-loop μ-loop
-loop-less c = search needs
 
 loop-again : tie.Need-loop-again Inv-loop μ-loop
 loop-again c =
@@ -62,16 +38,5 @@ pub tandawire-bench-crc-by-tables-spec : {M : Type 1} → statement M
 tandawire-bench-crc-by-tables-spec =
     tie.close
     (tie.spec
-    Inv-loop
-    μ-loop
-    tables-requires
-    loop-holds
-    cast-crc-by
-    mul-crc-by
-    cast-crc-by-2
-    add-crc-by
-    crc-by-requires
-    add-i
-    loop-less
-    loop-again
-    returns)
+    Inv-loop μ-loop (λ c κs. search needs) loop-holds (λ c. search needs) (λ c. search needs) (λ c. search needs) (λ c. search needs)
+    (λ c κs. search needs) (λ c. search needs) (λ c. search needs) loop-again returns)

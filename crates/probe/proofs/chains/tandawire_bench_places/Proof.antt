@@ -20,23 +20,8 @@ Inv-loop n size k tab d₀ i₀ d i = (i ≤ n) × (d < 2 ^ 32) × (d ≡ draw (
 abbrev μ-loop : tie.MeasureT-loop
 μ-loop n size k tab d₀ i₀ d i = n - i
 
-tables-requires : tie.Need-tables-requires Inv-loop μ-loop
-tables-requires c κs = search needs
-
 loop-holds : tie.Need-loop-holds Inv-loop μ-loop
 loop-holds c = (omega arith, omega arith, chain-none (strided (c .before .args .size) (c .before .args .k)) 1)
-
-places-requires : tie.Need-places-requires Inv-loop μ-loop
-places-requires c κs = search needs
-
-stride-requires : tie.Need-stride-requires Inv-loop μ-loop
-stride-requires c κs = search needs
-
-add-i : tie.Need-add-i Inv-loop μ-loop
-add-i c = search needs
-
-loop-less : tie.Need-loop-less Inv-loop μ-loop
-loop-less c = search needs
 
 loop-again : tie.Need-loop-again Inv-loop μ-loop
 loop-again c =
@@ -64,13 +49,5 @@ pub tandawire-bench-places-spec : {M : Type 1} → statement M
 tandawire-bench-places-spec =
     tie.close
     (tie.spec
-    Inv-loop
-    μ-loop
-    tables-requires
-    loop-holds
-    places-requires
-    stride-requires
-    add-i
-    loop-less
-    loop-again
-    returns)
+    Inv-loop μ-loop (λ c κs. search needs) loop-holds (λ c κs. search needs) (λ c κs. search needs) (λ c. search needs) (λ c. search needs)
+    loop-again returns)

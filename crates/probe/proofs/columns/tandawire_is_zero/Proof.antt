@@ -5,11 +5,8 @@ use mir.ValLaws.{toZ-ofZ}
 use Rattle.probe.proofs.columns.tandawire_is_zero.Statement.{statement}
 use Rattle.probe.proofs.columns.tandawire_is_zero.Tie as tie
 
-is-zero-requires : tie.Need-is-zero-requires
-is-zero-requires c κs = search needs
-
 returns : tie.Need-returns
 returns c = rw (toZ-ofZ w64 (c .before .args .count) (c .before .fits .count)) at (c .is-zero .ensures)
 
 pub tandawire-is-zero-spec : {M : Type 1} → statement M
-tandawire-is-zero-spec = tie.close (tie.spec is-zero-requires returns)
+tandawire-is-zero-spec = tie.close (tie.spec (λ c κs. search needs) returns)

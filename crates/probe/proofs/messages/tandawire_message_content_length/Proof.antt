@@ -5,11 +5,8 @@ use borrow.Author.Needs.{needs}
 use Rattle.probe.proofs.messages.tandawire_message_content_length.Statement.{statement}
 use Rattle.probe.proofs.messages.tandawire_message_content_length.Tie as tie
 
-content-requires : tie.Need-content-requires
-content-requires c κs = search needs
-
 returns : tie.Need-returns
 returns c = ap length (c .content .ensures)
 
 pub tandawire-message-content-length-spec : {M : Type 1} → statement M
-tandawire-message-content-length-spec = tie.close (tie.spec content-requires returns)
+tandawire-message-content-length-spec = tie.close (tie.spec (λ c κs. search needs) returns)

@@ -5,18 +5,8 @@ use borrow.Author.Needs.{needs}
 use Rattle.probe.proofs.messages.tandawire_offer_write.Statement.{statement}
 use Rattle.probe.proofs.messages.tandawire_offer_write.Tie as tie
 
-offer-requires : tie.Need-offer-requires
-offer-requires c κs = search needs
-
-write-numbers-requires : tie.Need-write-numbers-requires
-write-numbers-requires c κs = search needs
-
-same-length : tie.Need-same-length
-same-length c = search needs
-
 returns : tie.Need-returns
 returns c = rw (c .write-numbers .ensures) (ap writeNumbers (c .before .before .before .offer .ensures))
 
 pub tandawire-offer-write-spec : {M : Type 1} → statement M
-tandawire-offer-write-spec =
-    tie.close (tie.spec offer-requires write-numbers-requires same-length returns)
+tandawire-offer-write-spec = tie.close (tie.spec (λ c κs. search needs) (λ c κs. search needs) (λ c. search needs) returns)

@@ -10,16 +10,10 @@ use Rattle.probe.proofs.numbers.tandawire_crc_by_tables.Tie as tie
 
 -- `probe::numbers::tandawire_crc_by_tables` meets its contract: the tables are the CRC's. Assumes nothing.
 
-tables-requires : tie.Need-tables-requires
-tables-requires c κs = search needs
-
-crc-by-requires : tie.Need-crc-by-requires
-crc-by-requires c κs = search needs
-
 returns : tie.Need-returns
 returns c =
     let x = c .before .before .before .args .x in
     c .crc-by .ensures ∙ ap (λ (t : List ℕ). crcBy t x) (c .before .before .tables .ensures) ∙ crc-by-tables x
 
 pub tandawire-crc-by-tables-spec : {M : Type 1} → statement M
-tandawire-crc-by-tables-spec = tie.close (tie.spec tables-requires crc-by-requires returns)
+tandawire-crc-by-tables-spec = tie.close (tie.spec (λ c κs. search needs) (λ c κs. search needs) returns)

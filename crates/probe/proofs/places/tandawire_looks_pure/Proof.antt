@@ -11,12 +11,6 @@ use Rattle.bucket.proofs.PurityLaws.{pure-by-tables}
 use Rattle.probe.proofs.places.tandawire_looks_pure.Statement.{statement}
 use Rattle.probe.proofs.places.tandawire_looks_pure.Tie as tie
 
-tables-requires : tie.Need-tables-requires
-tables-requires c κs = search needs
-
-looks-pure-requires : tie.Need-looks-pure-requires
-looks-pure-requires c κs = search needs
-
 returns : tie.Need-returns
 returns c =
     let s = c .before .before .before in
@@ -26,4 +20,4 @@ returns c =
     ∙ pure-by-tables (min 4 (s .args .k)) (s .args .size) (s .args .i) b
 
 pub tandawire-looks-pure-spec : {M : Type 1} → statement M
-tandawire-looks-pure-spec = tie.close (tie.spec tables-requires looks-pure-requires returns)
+tandawire-looks-pure-spec = tie.close (tie.spec (λ c κs. search needs) (λ c κs. search needs) returns)

@@ -19,40 +19,13 @@ use Rattle.probe.proofs.places.tandawire_places.Tie as tie
 returns : tie.Need-returns
 returns c = let out = c .before .before .args .out .now in cond-kept _ out (lt-leb 4 (length out) (c .if1 .taken))
 
-tables-requires : tie.Need-tables-requires
-tables-requires c κs = search needs
-
-places-requires : tie.Need-places-requires
-places-requires c κs = search needs
-
-array-read-out : tie.Need-array-read-out
-array-read-out c = search needs
-
-slice-write-out : tie.Need-slice-write-out
-slice-write-out c = search needs
-
-array-read-out-2 : tie.Need-array-read-out-2
-array-read-out-2 c = search needs
-
 slice-write-out-2 : tie.Need-slice-write-out-2
 slice-write-out-2 c = omega (arith, length-set (c .before .before .before .before .before .args .out .now) 0 (getD (c .places .result) 0 0))
-
-array-read-out-3 : tie.Need-array-read-out-3
-array-read-out-3 c = search needs
 
 slice-write-out-3 : tie.Need-slice-write-out-3
 slice-write-out-3 c =
     let one = set (c .before .before .before .before .before .args .out .now) 0 (getD (c .places .result) 0 0) in
     omega (arith, length-set (c .before .before .before .before .before .args .out .now) 0 (getD (c .places .result) 0 0), length-set one 1 (getD (c .places .result) 1 0))
-
-array-read-out-4 : tie.Need-array-read-out-4
-array-read-out-4 c = search needs
-
-slice-write-out-4 : tie.Need-slice-write-out-4
-slice-write-out-4 c = search needs
-
-same-length : tie.Need-same-length
-same-length c = search needs
 
 returns-2 : tie.Need-returns-2
 returns-2 c =
@@ -74,16 +47,5 @@ pub tandawire-places-spec : {M : Type 1} → statement M
 tandawire-places-spec =
     tie.close
     (tie.spec
-    returns
-    tables-requires
-    places-requires
-    array-read-out
-    slice-write-out
-    array-read-out-2
-    slice-write-out-2
-    array-read-out-3
-    slice-write-out-3
-    array-read-out-4
-    slice-write-out-4
-    same-length
-    returns-2)
+    returns (λ c κs. search needs) (λ c κs. search needs) (λ c. search needs) (λ c. search needs) (λ c. search needs) slice-write-out-2
+    (λ c. search needs) slice-write-out-3 (λ c. search needs) (λ c. search needs) (λ c. search needs) returns-2)

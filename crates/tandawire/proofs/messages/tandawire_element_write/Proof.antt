@@ -5,18 +5,8 @@ use borrow.Author.Needs.{needs}
 use Rattle.tandawire.proofs.messages.tandawire_element_write.Statement.{statement}
 use Rattle.tandawire.proofs.messages.tandawire_element_write.Tie as tie
 
-element-requires : tie.Need-element-requires
-element-requires c κs = search needs
-
-write-numbers-requires : tie.Need-write-numbers-requires
-write-numbers-requires c κs = search needs
-
-same-length : tie.Need-same-length
-same-length c = search needs
-
 returns : tie.Need-returns
 returns c = rw (c .write-numbers .ensures) (ap writeNumbers (c .before .before .before .element .ensures))
 
 pub tandawire-element-write-spec : {M : Type 1} → statement M
-tandawire-element-write-spec =
-    tie.close (tie.spec element-requires write-numbers-requires same-length returns)
+tandawire-element-write-spec = tie.close (tie.spec (λ c κs. search needs) (λ c κs. search needs) (λ c. search needs) returns)

@@ -5,18 +5,8 @@ use borrow.Author.Needs.{needs}
 use Rattle.tandawire.proofs.messages.tandawire_filter_write.Statement.{statement}
 use Rattle.tandawire.proofs.messages.tandawire_filter_write.Tie as tie
 
-filter-requires : tie.Need-filter-requires
-filter-requires c κs = search needs
-
-write-numbers-requires : tie.Need-write-numbers-requires
-write-numbers-requires c κs = search needs
-
-same-length : tie.Need-same-length
-same-length c = search needs
-
 returns : tie.Need-returns
 returns c = rw (c .write-numbers .ensures) (ap writeNumbers (c .before .before .before .filter .ensures))
 
 pub tandawire-filter-write-spec : {M : Type 1} → statement M
-tandawire-filter-write-spec =
-    tie.close (tie.spec filter-requires write-numbers-requires same-length returns)
+tandawire-filter-write-spec = tie.close (tie.spec (λ c κs. search needs) (λ c κs. search needs) (λ c. search needs) returns)

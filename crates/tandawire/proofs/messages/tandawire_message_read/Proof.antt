@@ -3,14 +3,8 @@ use borrow.Author.Needs.{needs}
 use Rattle.tandawire.proofs.messages.tandawire_message_read.Statement.{statement}
 use Rattle.tandawire.proofs.messages.tandawire_message_read.Tie as tie
 
-read-requires : tie.Need-read-requires
-read-requires c κs = search needs
-
-message-numbers-requires : tie.Need-message-numbers-requires
-message-numbers-requires c κs = search needs
-
 returns : tie.Need-returns
 returns c = rw (← c .before .read .ensures) (c .message-numbers .ensures)
 
 pub tandawire-message-read-spec : {M : Type 1} → statement M
-tandawire-message-read-spec = tie.close (tie.spec read-requires message-numbers-requires returns)
+tandawire-message-read-spec = tie.close (tie.spec (λ c κs. search needs) (λ c κs. search needs) returns)
