@@ -27,26 +27,11 @@ mul-v c =
     let at = c .before .loop in
     omega (arith, number-lt (a .at) (a .s .now) (at .j) (omega arith), pow-mono {i = 8 * at .j} {j = 56} (omega arith))
 
-add-wide : tie.Need-add-wide Inv-loop μ-loop
-add-wide c = search needs
-
-shared-slice-read-wide : tie.Need-shared-slice-read-wide Inv-loop μ-loop
-shared-slice-read-wide c = search needs
-
-wide-requires : tie.Need-wide-requires Inv-loop μ-loop
-wide-requires c κs = search needs
-
 add-v : tie.Need-add-v Inv-loop μ-loop
 add-v c =
     let a = c .before .before .before .before .before .args in
     let at = c .before .before .before .loop in
     omega (arith, number-lt (a .at) (a .s .now) (at .j) (omega arith), pow-mono {i = 8 * at .j} {j = 56} (omega arith))
-
-add-j : tie.Need-add-j Inv-loop μ-loop
-add-j c = search needs
-
-loop-less : tie.Need-loop-less Inv-loop μ-loop
-loop-less c = search needs
 
 loop-again : tie.Need-loop-again Inv-loop μ-loop
 loop-again c =
@@ -68,15 +53,5 @@ pub joined-at-spec : {M : Type 1} → statement M
 joined-at-spec =
     tie.close
     (tie.spec
-    Inv-loop
-    μ-loop
-    loop-holds
-    mul-v
-    add-wide
-    shared-slice-read-wide
-    wide-requires
-    add-v
-    add-j
-    loop-less
-    loop-again
-    returns)
+    Inv-loop μ-loop loop-holds mul-v (λ c. search needs) (λ c. search needs) (λ c κs. search needs) add-v (λ c. search needs)
+    (λ c. search needs) loop-again returns)

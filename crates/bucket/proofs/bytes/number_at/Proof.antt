@@ -15,25 +15,10 @@ returns c =
     let a = c .before .before .args in
     sym (ap (joined 8) (part-past (a .at) (min 8 (a .k)) (a .s .now) (omega arith)))
 
-sub-left : tie.Need-sub-left
-sub-left c = search needs
-
-joined-at-requires : tie.Need-joined-at-requires
-joined-at-requires c κs = search needs
-
 returns-2 : tie.Need-returns-2
 returns-2 c =
     let a = c .before .before .before .before .before .args in
     c .joined-at .ensures ∙ ap (joined 8) (part-min (a .at) (min 8 (a .k)) (a .k) (a .s .now) (omega arith))
-
-least-requires : tie.Need-least-requires
-least-requires c κs = search needs
-
-least-requires-2 : tie.Need-least-requires-2
-least-requires-2 c κs = search needs
-
-joined-at-requires-2 : tie.Need-joined-at-requires-2
-joined-at-requires-2 c κs = search needs
 
 returns-3 : tie.Need-returns-3
 returns-3 c =
@@ -44,11 +29,5 @@ pub number-at-spec : {M : Type 1} → statement M
 number-at-spec =
     tie.close
     (tie.spec
-    returns
-    sub-left
-    joined-at-requires
-    returns-2
-    least-requires
-    least-requires-2
-    joined-at-requires-2
+    returns (λ c. search needs) (λ c κs. search needs) returns-2 (λ c κs. search needs) (λ c κs. search needs) (λ c κs. search needs)
     returns-3)

@@ -22,33 +22,6 @@ loop-holds : tie.Need-loop-holds Inv-loop μ-loop
 unfolding groups
 loop-holds c = (omega arith, laid-start (c .args .at) (c .args .s .now))
 
-sub-s : tie.Need-sub-s Inv-loop μ-loop
-sub-s c = search needs
-
-sub-s-2 : tie.Need-sub-s-2 Inv-loop μ-loop
-sub-s-2 c = search needs
-
-mul-s : tie.Need-mul-s Inv-loop μ-loop
-mul-s c = search needs
-
-shr-s : tie.Need-shr-s Inv-loop μ-loop
-shr-s c = search needs
-
-cast-s : tie.Need-cast-s Inv-loop μ-loop
-cast-s c = search needs
-
-add-s : tie.Need-add-s Inv-loop μ-loop
-add-s c = search needs
-
-slice-write-s : tie.Need-slice-write-s Inv-loop μ-loop
-slice-write-s c = omega (arith, c .before .loop .inv .1 .same)
-
-add-j : tie.Need-add-j Inv-loop μ-loop
-add-j c = search needs
-
-loop-less : tie.Need-loop-less Inv-loop μ-loop
-loop-less c = search needs
-
 loop-again : tie.Need-loop-again Inv-loop μ-loop
 loop-again c =
     let a = c .before .before .args in
@@ -76,18 +49,6 @@ pub put-groups-spec : {M : Type 1} → statement M
 put-groups-spec =
     tie.close
     (tie.spec
-    Inv-loop
-    μ-loop
-    loop-holds
-    sub-s
-    sub-s-2
-    mul-s
-    shr-s
-    cast-s
-    add-s
-    slice-write-s
-    add-j
-    loop-less
-    loop-again
-    same-length
+    Inv-loop μ-loop loop-holds (λ c. search needs) (λ c. search needs) (λ c. search needs) (λ c. search needs) (λ c. search needs)
+    (λ c. search needs) (λ c. omega (arith, c .before .loop .inv .1 .same)) (λ c. search needs) (λ c. search needs) loop-again same-length
     returns)

@@ -24,20 +24,11 @@ returns-2 c =
     let a = c .before .before .before .args in
     cond-kept _ _ (and-fails (leb (a .k) 8) (lt-leb (a .at + a .k) (length (a .s .now)) (omega arith)))
 
-sub-if3 : tie.Need-sub-if3
-sub-if3 c = search needs
-
 returns-3 : tie.Need-returns-3
 unfolding putInto
 returns-3 c =
     let a = c .before .before .before .before .args in
     cond-kept _ _ (and-fails (leb (a .k) 8) (lt-leb (a .at + a .k) (length (a .s .now)) (omega arith)))
-
-put-groups-requires : tie.Need-put-groups-requires
-put-groups-requires c κs = search needs
-
-same-length : tie.Need-same-length
-same-length c = search needs
 
 returns-4 : tie.Need-returns-4
 unfolding putInto
@@ -46,6 +37,4 @@ returns-4 c =
     c .before .before .put-groups .ensures ∙ cond-made _ _ (and-holds (le-leb (a .k) 8 (omega arith)) (le-leb (a .at + a .k) (length (a .s .now)) (omega arith)))
 
 pub put-number-spec : {M : Type 1} → statement M
-put-number-spec =
-    tie.close
-    (tie.spec returns returns-2 sub-if3 returns-3 put-groups-requires same-length returns-4)
+put-number-spec = tie.close (tie.spec returns returns-2 (λ c. search needs) returns-3 (λ c κs. search needs) (λ c. search needs) returns-4)

@@ -4,9 +4,6 @@ use Rattle.bucket.specs.Counts.{widthOf}
 use Rattle.bucket.proofs.counts.width.Statement.{statement}
 use Rattle.bucket.proofs.counts.width.Tie as tie
 
-sub-result : tie.Need-sub-result
-sub-result c = omega arith
-
 returns : tie.Need-returns
 unfolding widthOf
 returns c = omega arith
@@ -16,4 +13,4 @@ unfolding widthOf
 returns-2 c = omega arith
 
 pub width-spec : {M : Type 1} → statement M
-width-spec = tie.close (tie.spec sub-result returns returns-2)
+width-spec = tie.close (tie.spec (λ c. omega arith) returns returns-2)

@@ -18,27 +18,6 @@ abbrev μ-loop : tie.MeasureT-loop
 loop-holds : tie.Need-loop-holds Inv-loop μ-loop
 loop-holds c = (omega arith, refl)
 
-sub-k : tie.Need-sub-k Inv-loop μ-loop
-sub-k c = search needs
-
-mul-octet : tie.Need-mul-octet Inv-loop μ-loop
-mul-octet c = search needs
-
-cast-octet : tie.Need-cast-octet Inv-loop μ-loop
-cast-octet c = search needs
-
-shr-octet : tie.Need-shr-octet Inv-loop μ-loop
-shr-octet c = search needs
-
-cast-octet-2 : tie.Need-cast-octet-2 Inv-loop μ-loop
-cast-octet-2 c = search needs
-
-octet-requires : tie.Need-octet-requires Inv-loop μ-loop
-octet-requires c κs = search needs
-
-loop-less : tie.Need-loop-less Inv-loop μ-loop
-loop-less c = search needs
-
 loop-again : tie.Need-loop-again Inv-loop μ-loop
 unfolding feed groups
 loop-again c =
@@ -57,15 +36,5 @@ pub crc-spec : {M : Type 1} → statement M
 crc-spec =
     tie.close
     (tie.spec
-    Inv-loop
-    μ-loop
-    loop-holds
-    sub-k
-    mul-octet
-    cast-octet
-    shr-octet
-    cast-octet-2
-    octet-requires
-    loop-less
-    loop-again
-    returns)
+    Inv-loop μ-loop loop-holds (λ c. search needs) (λ c. search needs) (λ c. search needs) (λ c. search needs) (λ c. search needs)
+    (λ c κs. search needs) (λ c. search needs) loop-again returns)

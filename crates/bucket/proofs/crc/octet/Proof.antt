@@ -17,12 +17,6 @@ abbrev μ-loop : tie.MeasureT-loop
 loop-holds : tie.Need-loop-holds Inv-loop μ-loop
 loop-holds c = (omega arith, refl)
 
-bit-requires : tie.Need-bit-requires Inv-loop μ-loop
-bit-requires c κs = search needs
-
-add-k : tie.Need-add-k Inv-loop μ-loop
-add-k c = omega arith
-
 loop-less : tie.Need-loop-less Inv-loop μ-loop
 loop-less c = omega arith
 
@@ -40,5 +34,4 @@ returns c =
     rw none at (c .before .loop .inv .1)
 
 pub octet-spec : {M : Type 1} → statement M
-octet-spec =
-    tie.close (tie.spec Inv-loop μ-loop loop-holds bit-requires add-k loop-less loop-again returns)
+octet-spec = tie.close (tie.spec Inv-loop μ-loop loop-holds (λ c κs. search needs) (λ c. omega arith) loop-less loop-again returns)

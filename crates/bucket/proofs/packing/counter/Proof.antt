@@ -16,46 +16,10 @@ use Rattle.bucket.proofs.packing.counter.Tie as tie
 reach : (s : tie.Start) → let a = s .args in Room (a .w) (a .n) (a .at) (length (a .s .now)) × (a .w * a .i + a .w ≤ a .w * a .n)
 reach s = room-reach _ _ _ _ _ (s .pre)
 
-mul-from : tie.Need-mul-from
-mul-from c = omega (arith, reach (c .before))
-
-add-last : tie.Need-add-last
-add-last c = omega (arith, reach (c .before))
-
-add-last-2 : tie.Need-add-last-2
-add-last-2 c = omega (arith, reach (c .before))
-
-add-number-at : tie.Need-add-number-at
-add-number-at c = omega (arith, reach (c .before))
-
-sub-number-at : tie.Need-sub-number-at
-sub-number-at c = search needs
-
-number-at-requires : tie.Need-number-at-requires
-number-at-requires c κs = search needs
-
-mul-t : tie.Need-mul-t
-mul-t c = omega (arith, reach (c .before .before))
-
-sub-t : tie.Need-sub-t
-sub-t c = search needs
-
-sub-t-2 : tie.Need-sub-t-2
-sub-t-2 c = search needs
-
-cast-t : tie.Need-cast-t
-cast-t c = search needs
-
-two-to-requires : tie.Need-two-to-requires
-two-to-requires c κs = search needs
-
 div-result : tie.Need-div-result
 div-result c =
     let some : 0 < c .two-to .result = rw (c .two-to .ensures) (pow-pos _) in
     omega arith
-
-two-to-requires-2 : tie.Need-two-to-requires-2
-two-to-requires-2 c κs = omega (arith, reach (c .before .before .before))
 
 rem-result : tie.Need-rem-result
 rem-result c = omega (arith, c .two-to2 .ensures, pow-pos (c .before .before .before .before .args .w))
@@ -79,19 +43,7 @@ pub counter-spec : {M : Type 1} → statement M
 counter-spec =
     tie.close
     (tie.spec
-    mul-from
-    add-last
-    add-last-2
-    add-number-at
-    sub-number-at
-    number-at-requires
-    mul-t
-    sub-t
-    sub-t-2
-    cast-t
-    two-to-requires
-    div-result
-    two-to-requires-2
-    rem-result
-    cast-result
-    returns)
+    (λ c. omega (arith, reach (c .before))) (λ c. omega (arith, reach (c .before))) (λ c. omega (arith, reach (c .before)))
+    (λ c. omega (arith, reach (c .before))) (λ c. search needs) (λ c κs. search needs) (λ c. omega (arith, reach (c .before .before)))
+    (λ c. search needs) (λ c. search needs) (λ c. search needs) (λ c κs. search needs) div-result
+    (λ c κs. omega (arith, reach (c .before .before .before))) rem-result cast-result returns)

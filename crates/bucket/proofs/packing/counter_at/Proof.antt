@@ -7,9 +7,6 @@ use borrow.Author.Needs.{needs}
 use Rattle.bucket.proofs.packing.counter_at.Statement.{statement}
 use Rattle.bucket.proofs.packing.counter_at.Tie as tie
 
-takes-room-requires : tie.Need-takes-room-requires
-takes-room-requires c κs = search needs
-
 returns : tie.Need-returns
 returns c =
     let a = c .before .before .before .args in
@@ -29,5 +26,4 @@ returns-3 c =
     c .counter .ensures ∙ counter-here (a .s .now) (a .at) (a .n) (a .w) (a .i) (test-granted (c .before .before .before .takes-room .ensures) (c .before .before .if1 .left))
 
 pub counter-at-spec : {M : Type 1} → statement M
-counter-at-spec =
-    tie.close (tie.spec takes-room-requires returns returns-2 counter-requires returns-3)
+counter-at-spec = tie.close (tie.spec (λ c κs. search needs) returns returns-2 counter-requires returns-3)

@@ -33,15 +33,6 @@ returns-2 c =
 loop-holds : tie.Need-loop-holds Inv-loop μ-loop
 loop-holds c = let a = c .before .before .args in fitting-start (a .w) (a .counts .now)
 
-mul-has-bits : tie.Need-mul-has-bits Inv-loop μ-loop
-mul-has-bits c = search needs
-
-shared-slice-copy-out-has-bits : tie.Need-shared-slice-copy-out-has-bits Inv-loop μ-loop
-shared-slice-copy-out-has-bits c = search needs
-
-has-bits-requires : tie.Need-has-bits-requires Inv-loop μ-loop
-has-bits-requires c κs = search needs
-
 -- the count that was looked at
 seen : (c : tie.After-has-bits Inv-loop μ-loop) → let s = c .before .before .before .before .before .before in
     c .has-bits .result ≡ hasBits (s .args .w) (getD (s .args .counts .now) (c .before .before .before .loop .i) (pos 0))
@@ -55,12 +46,6 @@ returns-3 c =
     let k = c .before .before .before .before .loop .inv in
     sym (and-fails (isWidth w) (fitting-not k (omega arith) (test-refused (seen (c .before)) (c .if3 .taken))))
 
-add-i : tie.Need-add-i Inv-loop μ-loop
-add-i c = search needs
-
-loop-less : tie.Need-loop-less Inv-loop μ-loop
-loop-less c = search needs
-
 loop-again : tie.Need-loop-again Inv-loop μ-loop
 loop-again c = fitting-next (c .before .before .before .before .loop .inv) (omega arith) (test-granted (seen (c .before)) (c .if3 .left))
 
@@ -73,16 +58,5 @@ pub fits-spec : {M : Type 1} → statement M
 fits-spec =
     tie.close
     (tie.spec
-    Inv-loop
-    μ-loop
-    returns
-    returns-2
-    loop-holds
-    mul-has-bits
-    shared-slice-copy-out-has-bits
-    has-bits-requires
-    returns-3
-    add-i
-    loop-less
-    loop-again
-    returns-4)
+    Inv-loop μ-loop returns returns-2 loop-holds (λ c. search needs) (λ c. search needs) (λ c κs. search needs) returns-3
+    (λ c. search needs) (λ c. search needs) loop-again returns-4)

@@ -10,16 +10,10 @@ use Rattle.bucket.proofs.packing.has_bits.Tie as tie
 returns : tie.Need-returns
 returns c = bits-low (c .before .args .c) (c .before .fits .c) (c .before .args .w) (c .if1 .taken)
 
-number-of-requires : tie.Need-number-of-requires
-number-of-requires c κs = search needs
-
-two-to-requires : tie.Need-two-to-requires
-two-to-requires c κs = search needs
-
 returns-2 : tie.Need-returns-2
 returns-2 c =
     let s = c .before .before .before in
     ap₂ ltb (c .before .number-of .ensures) (c .two-to .ensures) ∙ bits-high (s .args .c) (s .fits .c) (s .args .w) (c .before .before .if1 .left)
 
 pub has-bits-spec : {M : Type 1} → statement M
-has-bits-spec = tie.close (tie.spec returns number-of-requires two-to-requires returns-2)
+has-bits-spec = tie.close (tie.spec returns (λ c κs. search needs) (λ c κs. search needs) returns-2)

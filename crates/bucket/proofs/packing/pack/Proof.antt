@@ -18,18 +18,12 @@ fitting c =
     let a = c .before .before .before .before .args in
     c .fits2 .ensures ∙ takes-fits (a .w) (length (a .counts .now)) (a .at) (length (a .out .now)) (a .counts .now) (there (c .before))
 
-takes-room-requires : tie.Need-takes-room-requires
-takes-room-requires c κs = search needs
-
 returns : tie.Need-returns
 unfolding packInto packEnd
 returns c =
     let a = c .before .before .before .args in
     let no = and-fails (fitsIn (a .w) (a .counts .now)) (test-refused (c .before .takes-room .ensures) (c .if1 .taken)) in
     (cond-kept _ _ no, cond-kept _ _ no)
-
-fits-requires : tie.Need-fits-requires
-fits-requires c κs = search needs
 
 returns-2 : tie.Need-returns-2
 unfolding packInto packEnd
@@ -41,9 +35,6 @@ returns-2 c =
 
 pack-all-requires : tie.Need-pack-all-requires
 pack-all-requires c κs = (test-granted (fitting (c .before .before)) (c .before .if2 .left), there (c .before .before .before))
-
-same-length : tie.Need-same-length
-same-length c = search needs
 
 returns-3 : tie.Need-returns-3
 unfolding packInto packEnd
@@ -57,10 +48,4 @@ pub pack-spec : {M : Type 1} → statement M
 pack-spec =
     tie.close
     (tie.spec
-    takes-room-requires
-    returns
-    fits-requires
-    returns-2
-    pack-all-requires
-    same-length
-    returns-3)
+    (λ c κs. search needs) returns (λ c κs. search needs) returns-2 pack-all-requires (λ c. search needs) returns-3)

@@ -26,9 +26,6 @@ loop-holds c =
     let a = s .args in
     packing-start (a .w) (a .at) (a .counts .now) (a .out .now) (takes-room (a .w) (length (a .counts .now)) (a .at) (length (a .out .now)) (s .pre .1))
 
-two-to-requires : tie.Need-two-to-requires Inv-loop μ-loop
-two-to-requires c κs = search needs
-
 div-out : tie.Need-div-out Inv-loop μ-loop
 div-out c = omega (arith, c .two-to .ensures, pow-pos (c .before .before .loop .have - 8))
 
@@ -39,43 +36,19 @@ cast-out c =
     let e : at .have ≡ 8 + left = omega arith in
     record { fits = rw (c .two-to .ensures) (shr-lt 8 left (rw e at (packing-small (at .inv)))) }
 
-add-out : tie.Need-add-out Inv-loop μ-loop
-add-out c = omega (arith, packing-room (c .before .before .loop .inv) (omega arith))
-
-slice-write-out : tie.Need-slice-write-out Inv-loop μ-loop
-slice-write-out c = omega (arith, packing-room (c .before .before .loop .inv) (omega arith))
-
 rem-acc : tie.Need-rem-acc Inv-loop μ-loop
 rem-acc c = omega (arith, c .two-to .ensures, pow-pos (c .before .before .loop .have - 8))
-
-add-n : tie.Need-add-n Inv-loop μ-loop
-add-n c = omega (arith, packing-room (c .before .before .loop .inv) (omega arith))
-
-loop-less : tie.Need-loop-less Inv-loop μ-loop
-loop-less c = search needs
 
 loop-again : tie.Need-loop-again Inv-loop μ-loop
 loop-again c =
     let at = c .before .before .loop in
     rw (c .two-to .ensures) (packing-byte (at .inv) (at .have - 8) (omega arith) (packing-room (at .inv) (omega arith)))
 
-two-to-requires-2 : tie.Need-two-to-requires-2 Inv-loop μ-loop
-two-to-requires-2 c κs = search needs
-
 mul-acc : tie.Need-mul-acc Inv-loop μ-loop
 mul-acc c =
     let at = c .before .before .before .loop in
     let a = c .before .before .before .before .before .args in
     record { fits = rw (c .two-to2 .ensures) (lt-of-lt-of-le (shl-lt (at .have) (a .w) (packing-small (at .inv))) (pow-mono {i = at .have + a .w} {j = 64} (omega arith))) }
-
-mul-number-of : tie.Need-mul-number-of Inv-loop μ-loop
-mul-number-of c = search needs
-
-shared-slice-copy-out-number-of : tie.Need-shared-slice-copy-out-number-of Inv-loop μ-loop
-shared-slice-copy-out-number-of c = search needs
-
-number-of-requires : tie.Need-number-of-requires Inv-loop μ-loop
-number-of-requires c κs = search needs
 
 -- one more count is taken in
 more : (c : tie.After-number-of Inv-loop μ-loop) → let at = c .before .before .before .before .before .loop in
@@ -96,23 +69,8 @@ add-acc c =
     let w = c .before .before .before .before .before .before .before .args .w in
     record { fits = lt-of-lt-of-le (packing-small (more c)) (pow-mono {i = at .have + w} {j = 64} (omega arith)) }
 
-add-have : tie.Need-add-have Inv-loop μ-loop
-add-have c = search needs
-
-add-i : tie.Need-add-i Inv-loop μ-loop
-add-i c = search needs
-
-loop-less-2 : tie.Need-loop-less-2 Inv-loop μ-loop
-loop-less-2 c = search needs
-
 loop-again-2 : tie.Need-loop-again-2 Inv-loop μ-loop
 loop-again-2 c = more c
-
-sub-two-to : tie.Need-sub-two-to Inv-loop μ-loop
-sub-two-to c = search needs
-
-two-to-requires-3 : tie.Need-two-to-requires-3 Inv-loop μ-loop
-two-to-requires-3 c κs = search needs
 
 -- the bits left over, put at the top of a byte
 top : (c : tie.After-two-to3 Inv-loop μ-loop) → c .before .before .before .before .loop .acc * c .two-to3 .result < 2 ^ 8
@@ -120,12 +78,6 @@ top c =
     let at = c .before .before .before .before .loop in
     rw (c .two-to3 .ensures)
     (lt-of-lt-of-le (shl-lt (at .have) (8 - at .have) (packing-small (at .inv))) (pow-mono {i = at .have + (8 - at .have)} {j = 8} (omega arith)))
-
-mul-out : tie.Need-mul-out Inv-loop μ-loop
-mul-out c = omega (arith, top c)
-
-cast-out-2 : tie.Need-cast-out-2 Inv-loop μ-loop
-cast-out-2 c = omega (arith, top c)
 
 add-out-2 : tie.Need-add-out-2 Inv-loop μ-loop
 add-out-2 c = omega (arith, packing-room (c .before .before .before .before .loop .inv) (omega arith))
@@ -139,9 +91,6 @@ add-result c = omega (arith, packing-end (c .before .before .before .before .loo
 add-result-2 : tie.Need-add-result-2 Inv-loop μ-loop
 add-result-2 c = omega (arith, packing-end (c .before .before .before .before .loop .inv) (omega arith) (omega arith))
 
-same-length : tie.Need-same-length Inv-loop μ-loop
-same-length c = search needs
-
 returns : tie.Need-returns Inv-loop μ-loop
 returns c =
     let k = c .before .before .before .before .loop .inv in (
@@ -152,9 +101,6 @@ returns c =
 add-result-3 : tie.Need-add-result-3 Inv-loop μ-loop
 add-result-3 c = omega (arith, packing-end (c .before .before .before .loop .inv) (omega arith) (omega arith))
 
-same-length-2 : tie.Need-same-length-2 Inv-loop μ-loop
-same-length-2 c = search needs
-
 returns-2 : tie.Need-returns-2 Inv-loop μ-loop
 returns-2 c =
     let k = c .before .before .before .loop .inv in
@@ -164,38 +110,10 @@ pub pack-all-spec : {M : Type 1} → statement M
 pack-all-spec =
     tie.close
     (tie.spec
-    Inv-loop
-    μ-loop
-    loop-holds
-    two-to-requires
-    div-out
-    cast-out
-    add-out
-    slice-write-out
-    rem-acc
-    add-n
-    loop-less
-    loop-again
-    two-to-requires-2
-    mul-acc
-    mul-number-of
-    shared-slice-copy-out-number-of
-    number-of-requires
-    add-acc
-    add-have
-    add-i
-    loop-less-2
-    loop-again-2
-    sub-two-to
-    two-to-requires-3
-    mul-out
-    cast-out-2
-    add-out-2
-    slice-write-out-2
-    add-result
-    add-result-2
-    same-length
-    returns
-    add-result-3
-    same-length-2
-    returns-2)
+    Inv-loop μ-loop loop-holds (λ c κs. search needs) div-out cast-out
+    (λ c. omega (arith, packing-room (c .before .before .loop .inv) (omega arith)))
+    (λ c. omega (arith, packing-room (c .before .before .loop .inv) (omega arith))) rem-acc
+    (λ c. omega (arith, packing-room (c .before .before .loop .inv) (omega arith))) (λ c. search needs) loop-again (λ c κs. search needs)
+    mul-acc (λ c. search needs) (λ c. search needs) (λ c κs. search needs) add-acc (λ c. search needs) (λ c. search needs)
+    (λ c. search needs) loop-again-2 (λ c. search needs) (λ c κs. search needs) (λ c. omega (arith, top c)) (λ c. omega (arith, top c))
+    add-out-2 slice-write-out-2 add-result add-result-2 (λ c. search needs) returns add-result-3 (λ c. search needs) returns-2)

@@ -14,36 +14,6 @@ use Rattle.bucket.proofs.packing.spare_bits.Tie as tie
 reach : (s : tie.Start) → let a = s .args in Room (a .w) (a .n) (a .at) (length (a .s .now)) × (a .w * 0 + a .w ≤ a .w * a .n)
 reach s = room-reach _ _ _ _ 0 (s .pre)
 
-mul-bits : tie.Need-mul-bits
-mul-bits c = omega (arith, reach (c .before))
-
-add-bytes : tie.Need-add-bytes
-add-bytes c = omega (arith, reach (c .before))
-
-add-last : tie.Need-add-last
-add-last c = omega (arith, reach (c .before))
-
-sub-last : tie.Need-sub-last
-sub-last c = omega (arith, reach (c .before))
-
-shared-slice-read-last : tie.Need-shared-slice-read-last
-shared-slice-read-last c = omega (arith, reach (c .before .before))
-
-wide-requires : tie.Need-wide-requires
-wide-requires c κs = search needs
-
-mul-two-to : tie.Need-mul-two-to
-mul-two-to c = omega (arith, reach (c .before .before .before))
-
-sub-two-to : tie.Need-sub-two-to
-sub-two-to c = search needs
-
-cast-two-to : tie.Need-cast-two-to
-cast-two-to c = search needs
-
-two-to-requires : tie.Need-two-to-requires
-two-to-requires c κs = search needs
-
 rem-result : tie.Need-rem-result
 rem-result c =
     let a = c .before .before .before .before .args in
@@ -66,16 +36,7 @@ pub spare-bits-spec : {M : Type 1} → statement M
 spare-bits-spec =
     tie.close
     (tie.spec
-    mul-bits
-    add-bytes
-    add-last
-    sub-last
-    shared-slice-read-last
-    wide-requires
-    mul-two-to
-    sub-two-to
-    cast-two-to
-    two-to-requires
-    rem-result
-    cast-result
-    returns)
+    (λ c. omega (arith, reach (c .before))) (λ c. omega (arith, reach (c .before))) (λ c. omega (arith, reach (c .before)))
+    (λ c. omega (arith, reach (c .before))) (λ c. omega (arith, reach (c .before .before))) (λ c κs. search needs)
+    (λ c. omega (arith, reach (c .before .before .before))) (λ c. search needs) (λ c. search needs) (λ c κs. search needs) rem-result
+    cast-result returns)

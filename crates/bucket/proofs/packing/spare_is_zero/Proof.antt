@@ -9,9 +9,6 @@ use borrow.Author.Needs.{needs}
 use Rattle.bucket.proofs.packing.spare_is_zero.Statement.{statement}
 use Rattle.bucket.proofs.packing.spare_is_zero.Tie as tie
 
-takes-room-requires : tie.Need-takes-room-requires
-takes-room-requires c κs = search needs
-
 returns : tie.Need-returns
 returns c =
     let a = c .before .before .before .args in
@@ -31,5 +28,4 @@ returns-3 c =
     ap (λ (b : ℕ). eqb b 0) (c .spare-bits .ensures) ∙ bare-here (a .s .now) (a .at) (a .n) (a .w) (test-granted (c .before .before .before .takes-room .ensures) (c .before .before .if1 .left))
 
 pub spare-is-zero-spec : {M : Type 1} → statement M
-spare-is-zero-spec =
-    tie.close (tie.spec takes-room-requires returns returns-2 spare-bits-requires returns-3)
+spare-is-zero-spec = tie.close (tie.spec (λ c κs. search needs) returns returns-2 spare-bits-requires returns-3)

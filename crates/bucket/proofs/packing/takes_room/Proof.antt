@@ -46,5 +46,4 @@ returns-5 c =
     leb-move (a .at) (bytesFor (a .w * a .n)) (a .room) (omega arith) ∙ sym (takes-rest (a .w) (a .n) (a .at) (a .room) (omega arith) (omega arith) (omega arith))
 
 pub takes-room-spec : {M : Type 1} → statement M
-takes-room-spec =
-    tie.close (tie.spec returns returns-2 returns-3 mul-bytes add-bytes returns-4 returns-5)
+takes-room-spec = tie.close (tie.spec returns returns-2 returns-3 mul-bytes add-bytes returns-4 returns-5)

@@ -8,11 +8,8 @@ use lib.Pow.{pow-lt}
 use Rattle.bucket.proofs.packing.two_to.Statement.{statement}
 use Rattle.bucket.proofs.packing.two_to.Tie as tie
 
-shl-result : tie.Need-shl-result
-shl-result c = search needs
-
 returns : tie.Need-returns
 returns c = ap (λ (q : ℕ). q % 2 ^ 64) (one-mul (2 ^ c .args .w)) ∙ mod-eq-of-lt (pow-lt {i = c .args .w} {j = 64} (omega arith))
 
 pub two-to-spec : {M : Type 1} → statement M
-two-to-spec = tie.close (tie.spec shl-result returns)
+two-to-spec = tie.close (tie.spec (λ c. search needs) returns)

@@ -12,9 +12,6 @@ use borrow.Author.Needs.{needs}
 use Rattle.bucket.proofs.packing.unpack.Statement.{statement}
 use Rattle.bucket.proofs.packing.unpack.Tie as tie
 
-takes-room-requires : tie.Need-takes-room-requires
-takes-room-requires c κs = search needs
-
 returns : tie.Need-returns
 unfolding unpackInto
 returns c =
@@ -29,9 +26,6 @@ returns-2 c =
     let no = and-fails (takes (a .w) (a .n) (a .at) (length (a .s .now))) (lt-leb (a .from + a .n) (length (a .counts .now)) (omega arith)) in
     (sym no, cond-kept _ _ no)
 
-sub-if3 : tie.Need-sub-if3
-sub-if3 c = search needs
-
 returns-3 : tie.Need-returns-3
 unfolding unpackInto
 returns-3 c =
@@ -41,9 +35,6 @@ returns-3 c =
 
 unpack-all-requires : tie.Need-unpack-all-requires
 unpack-all-requires c κs = (test-granted (c .before .before .before .before .takes-room .ensures) (c .before .before .before .if1 .left), omega arith)
-
-same-length : tie.Need-same-length
-same-length c = search needs
 
 returns-4 : tie.Need-returns-4
 unfolding unpackInto
@@ -56,11 +47,4 @@ pub unpack-spec : {M : Type 1} → statement M
 unpack-spec =
     tie.close
     (tie.spec
-    takes-room-requires
-    returns
-    returns-2
-    sub-if3
-    returns-3
-    unpack-all-requires
-    same-length
-    returns-4)
+    (λ c κs. search needs) returns returns-2 (λ c. search needs) returns-3 unpack-all-requires (λ c. search needs) returns-4)

@@ -29,24 +29,6 @@ loop-holds c =
 counter-requires : tie.Need-counter-requires Inv-loop μ-loop
 counter-requires c κs = (c .before .before .before .pre .0, omega arith)
 
-cast-counts : tie.Need-cast-counts Inv-loop μ-loop
-cast-counts c = search needs
-
-add-t11 : tie.Need-add-t11 Inv-loop μ-loop
-add-t11 c = search needs
-
-mul-t12 : tie.Need-mul-t12 Inv-loop μ-loop
-mul-t12 c = search needs
-
-slice-set-from-counts : tie.Need-slice-set-from-counts Inv-loop μ-loop
-slice-set-from-counts c = search needs
-
-add-i : tie.Need-add-i Inv-loop μ-loop
-add-i c = search needs
-
-loop-less : tie.Need-loop-less Inv-loop μ-loop
-loop-less c = search needs
-
 loop-again : tie.Need-loop-again Inv-loop μ-loop
 loop-again c =
     let a = c .before .before .before .before .args in
@@ -54,9 +36,6 @@ loop-again c =
     let bytes = part (a .at) (bytesFor (a .w * a .n)) (a .s .now) in
     let len = counts-length (a .w) (a .n) bytes in
     (omega arith, rw (counts-at (unpacked (a .w) (a .n) bytes) (at .i) (omega arith) (c .counter .ensures)) (laid-take (map pos (unpacked (a .w) (a .n) bytes)) (pos 0) (at .inv .1) (omega arith) (omega arith)))
-
-same-length : tie.Need-same-length Inv-loop μ-loop
-same-length c = search needs
 
 returns : tie.Need-returns Inv-loop μ-loop
 returns c =
@@ -69,16 +48,5 @@ pub unpack-all-spec : {M : Type 1} → statement M
 unpack-all-spec =
     tie.close
     (tie.spec
-    Inv-loop
-    μ-loop
-    loop-holds
-    counter-requires
-    cast-counts
-    add-t11
-    mul-t12
-    slice-set-from-counts
-    add-i
-    loop-less
-    loop-again
-    same-length
-    returns)
+    Inv-loop μ-loop loop-holds counter-requires (λ c. search needs) (λ c. search needs) (λ c. search needs) (λ c. search needs)
+    (λ c. search needs) (λ c. search needs) loop-again (λ c. search needs) returns)

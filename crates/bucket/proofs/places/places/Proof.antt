@@ -28,9 +28,6 @@ Inv-draws tab d size k most taken₀ n₀ e₀ i₀ taken n e i = Drawing (nextB
 abbrev μ-draws : tie.MeasureT-draws
 μ-draws tab d size k most taken₀ n₀ e₀ i₀ taken n e i = 64 - i
 
-least-requires : tie.Need-least-requires Inv-taken μ-taken Inv-draws μ-draws
-least-requires c κs = search needs
-
 returns : tie.Need-returns Inv-taken μ-taken Inv-draws μ-draws
 unfolding pad
 returns c =
@@ -54,46 +51,13 @@ slice-aggregate-fill c = sym (c .before .before .draws .inv .search .room)
 fill-requires : tie.Need-fill-requires Inv-taken μ-taken Inv-draws μ-draws
 fill-requires c κs = let s = c .before .before .draws .inv .search in (omega arith, omega arith, rw (s .room) (s .padded))
 
-rem-c : tie.Need-rem-c Inv-taken μ-taken Inv-draws μ-draws
-rem-c c = search needs
-
 taken-holds : tie.Need-taken-holds Inv-taken μ-taken Inv-draws μ-draws
 taken-holds c = (c .before .draws .inv, search needs, elem-nil _)
-
-mul-taken : tie.Need-mul-taken Inv-taken μ-taken Inv-draws μ-draws
-mul-taken c = search needs
-
-array-write-taken : tie.Need-array-write-taken Inv-taken μ-taken Inv-draws μ-draws
-array-write-taken c = search needs
-
-add-n : tie.Need-add-n Inv-taken μ-taken Inv-draws μ-draws
-add-n c = search needs
-
-mul-if6 : tie.Need-mul-if6 Inv-taken μ-taken Inv-draws μ-draws
-mul-if6 c = search needs
-
-array-read-if6 : tie.Need-array-read-if6 Inv-taken μ-taken Inv-draws μ-draws
-array-read-if6 c = search needs
-
-add-j : tie.Need-add-j Inv-taken μ-taken Inv-draws μ-draws
-add-j c = search needs
-
-taken-less : tie.Need-taken-less Inv-taken μ-taken Inv-draws μ-draws
-taken-less c = search needs
 
 taken-again : tie.Need-taken-again Inv-taken μ-taken Inv-draws μ-draws
 taken-again c =
     let at = c .before .before .taken in
     (at .inv .0, search needs, elem-take-more _ (at .taken) (at .j) (omega arith) (at .inv .2) (c .if6 .left))
-
-next-draw-requires : tie.Need-next-draw-requires Inv-taken μ-taken Inv-draws μ-draws
-next-draw-requires c κs = search needs
-
-add-i : tie.Need-add-i Inv-taken μ-taken Inv-draws μ-draws
-add-i c = search needs
-
-draws-less : tie.Need-draws-less Inv-taken μ-taken Inv-draws μ-draws
-draws-less c = search needs
 
 draws-again : tie.Need-draws-again Inv-taken μ-taken Inv-draws μ-draws
 draws-again c =
@@ -124,29 +88,7 @@ pub places-spec : {M : Type 1} → statement M
 places-spec =
     tie.close
     (tie.spec
-    Inv-taken
-    μ-taken
-    Inv-draws
-    μ-draws
-    least-requires
-    returns
-    returns-2
-    draws-holds
-    slice-aggregate-fill
-    fill-requires
-    rem-c
-    taken-holds
-    mul-taken
-    array-write-taken
-    add-n
-    mul-if6
-    array-read-if6
-    add-j
-    taken-less
-    taken-again
-    next-draw-requires
-    add-i
-    draws-less
-    draws-again
-    returns-3
+    Inv-taken μ-taken Inv-draws μ-draws (λ c κs. search needs) returns returns-2 draws-holds slice-aggregate-fill fill-requires
+    (λ c. search needs) taken-holds (λ c. search needs) (λ c. search needs) (λ c. search needs) (λ c. search needs) (λ c. search needs)
+    (λ c. search needs) (λ c. search needs) taken-again (λ c κs. search needs) (λ c. search needs) (λ c. search needs) draws-again returns-3
     returns-4)

@@ -13,20 +13,11 @@ use Rattle.bucket.proofs.PlaceLaws.{places-back, first-placed}
 use Rattle.bucket.proofs.purity.is_place.Statement.{statement}
 use Rattle.bucket.proofs.purity.is_place.Tie as tie
 
-least-requires : tie.Need-least-requires
-least-requires c κs = search needs
-
-least-requires-2 : tie.Need-least-requires-2
-least-requires-2 c κs = search needs
-
 returns : tie.Need-returns
 returns c =
     let args = c .before .before .before .args in
     sym (elem-nil (args .i))
     ∙ ap (elem (args .i)) (places-back (nextBy (args .tab .now)) (min 4 (args .k)) (args .size) (args .d) 4 0 (omega arith))
-
-rem-if2 : tie.Need-rem-if2
-rem-if2 c = search needs
 
 returns-2 : tie.Need-returns-2
 returns-2 c =
@@ -34,15 +25,6 @@ returns-2 c =
     sym
     (ap (λ (b : ℕ). elem b (placesBy (nextBy (args .tab .now)) (min 4 (args .k)) (args .size) (args .d))) (sym (c .if2 .taken))
     ∙ first-placed (nextBy (args .tab .now)) (min 4 (args .k)) (args .size) (args .d) (omega arith) (omega arith))
-
-places-requires : tie.Need-places-requires
-places-requires c κs = search needs
-
-slice-aggregate-is-taken : tie.Need-slice-aggregate-is-taken
-slice-aggregate-is-taken c = search needs
-
-is-taken-requires : tie.Need-is-taken-requires
-is-taken-requires c κs = search needs
 
 returns-3 : tie.Need-returns-3
 returns-3 c =
@@ -57,12 +39,5 @@ pub is-place-spec : {M : Type 1} → statement M
 is-place-spec =
     tie.close
     (tie.spec
-    least-requires
-    least-requires-2
-    returns
-    rem-if2
-    returns-2
-    places-requires
-    slice-aggregate-is-taken
-    is-taken-requires
-    returns-3)
+    (λ c κs. search needs) (λ c κs. search needs) returns (λ c. search needs) returns-2 (λ c κs. search needs) (λ c. search needs)
+    (λ c κs. search needs) returns-3)

@@ -11,18 +11,9 @@ use Rattle.bucket.proofs.PurityLaws.{pure-place, impure-sum, impure-cou
 use Rattle.bucket.proofs.purity.looks_pure.Statement.{statement}
 use Rattle.bucket.proofs.purity.looks_pure.Tie as tie
 
-is-one-requires : tie.Need-is-one-requires
-is-one-requires c κs = search needs
-
 -- the count is passed on as its bits
 one-is : (c : tie.After-is-one) → c .is-one .result ≡ isOne (c .before .args .count)
 one-is c = c .is-one .ensures ∙ ap isOne (toZ-ofZ w64 (c .before .args .count) (c .before .fits .count))
-
-crc-by-requires : tie.Need-crc-by-requires
-crc-by-requires c κs = search needs
-
-is-place-requires : tie.Need-is-place-requires
-is-place-requires c κs = search needs
 
 returns : tie.Need-returns
 returns c =
@@ -45,6 +36,4 @@ returns-3 c =
     (sym (one-is (c .before)) ∙ c .if1 .left)
 
 pub looks-pure-spec : {M : Type 1} → statement M
-looks-pure-spec =
-    tie.close
-    (tie.spec is-one-requires crc-by-requires is-place-requires returns returns-2 returns-3)
+looks-pure-spec = tie.close (tie.spec (λ c κs. search needs) (λ c κs. search needs) (λ c κs. search needs) returns returns-2 returns-3)

@@ -9,18 +9,6 @@ use Rattle.bucket.proofs.SaltLaws.{rotation}
 use Rattle.bucket.proofs.salting.rotated.Statement.{statement}
 use Rattle.bucket.proofs.salting.rotated.Tie as tie
 
-shr-result : tie.Need-shr-result
-shr-result c = search needs
-
-sub-result : tie.Need-sub-result
-sub-result c = search needs
-
-cast-result : tie.Need-cast-result
-cast-result c = search needs
-
-shl-result : tie.Need-shl-result
-shl-result c = search needs
-
 returns : tie.Need-returns
 unfolding rot
 returns c = rw (c .if1 .taken) (omega arith)
@@ -36,4 +24,4 @@ returns-2 c =
     subst (λ (n : ℕ). bitOr (x / 2 ^ s) (x * 2 ^ (64 - s) % 2 ^ n) ≡ x / 2 ^ s + x % 2 ^ s * 2 ^ (64 - s)) whole (rotation (64 - s) s x h)
 
 pub rotated-spec : {M : Type 1} → statement M
-rotated-spec = tie.close (tie.spec shr-result sub-result cast-result shl-result returns returns-2)
+rotated-spec = tie.close (tie.spec (λ c. search needs) (λ c. search needs) (λ c. search needs) (λ c. search needs) returns returns-2)

@@ -5,14 +5,8 @@ use Rattle.bucket.proofs.SaltLaws.{salted-mod}
 use Rattle.bucket.proofs.salting.salt.Statement.{statement}
 use Rattle.bucket.proofs.salting.salt.Tie as tie
 
-mul-rotated : tie.Need-mul-rotated
-mul-rotated c = search needs
-
-rotated-requires : tie.Need-rotated-requires
-rotated-requires c κs = search needs
-
 returns : tie.Need-returns
 returns c = c .rotated .ensures ∙ salted-mod (c .before .args .t) (c .before .args .x)
 
 pub salt-spec : {M : Type 1} → statement M
-salt-spec = tie.close (tie.spec mul-rotated rotated-requires returns)
+salt-spec = tie.close (tie.spec (λ c. search needs) (λ c κs. search needs) returns)

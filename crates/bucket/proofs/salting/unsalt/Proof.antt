@@ -8,15 +8,6 @@ use Rattle.bucket.proofs.SaltLaws.{rot-all, unsalted-mod}
 use Rattle.bucket.proofs.salting.unsalt.Statement.{statement}
 use Rattle.bucket.proofs.salting.unsalt.Tie as tie
 
-mul-turn : tie.Need-mul-turn
-mul-turn c = search needs
-
-sub-rotated : tie.Need-sub-rotated
-sub-rotated c = search needs
-
-rotated-requires : tie.Need-rotated-requires
-rotated-requires c κs = search needs
-
 returns : tie.Need-returns
 returns c =
     let x = c .before .args .x in
@@ -26,4 +17,4 @@ returns-2 : tie.Need-returns-2
 returns-2 c = c .rotated .ensures ∙ unsalted-mod (c .before .before .args .t) (c .before .before .args .x)
 
 pub unsalt-spec : {M : Type 1} → statement M
-unsalt-spec = tie.close (tie.spec mul-turn sub-rotated rotated-requires returns returns-2)
+unsalt-spec = tie.close (tie.spec (λ c. search needs) (λ c. search needs) (λ c κs. search needs) returns returns-2)
