@@ -24,8 +24,8 @@ loop-again c =
     let at = c .before .before .before .loop in
     filled-more entry 2048 (at .i) (c .octet .result) (at .tab) (at .inv) (c .before .before .loop-test .taken)
     (c .octet .ensures
-    ∙ ⊎-elim (λ w. ap (steps 8) (w .1) ∙ entry-first (at .i) (w .0 .taken))
-    (λ w. ap (steps 8) (w .1 ∙ at .inv .each (at .i - 256) (omega arith)) ∙ entry-next (at .i) (w .0 .left)) (c .before .if1 .came))
+    ∙ ⊎-elim (λ w. ap (steps 8) (w .1) ∙ entry-first (at .i) (omega arith))
+    (λ w. ap (steps 8) (w .1 ∙ at .inv .each (at .i - 256) (omega arith)) ∙ entry-next (at .i) (omega arith)) (c .before .if1 .came))
 
 returns : tie.Need-returns Inv-loop μ-loop
 unfolding crcTables
