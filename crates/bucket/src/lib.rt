@@ -9,6 +9,7 @@ pub mod packing;
 pub mod places;
 pub mod purity;
 pub mod salting;
+mod taken;
 
 ghost use mathlib.Core.Path.{_≡_};
 ghost use Prim.Native.Nat.{min};

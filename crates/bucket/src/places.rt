@@ -3,7 +3,7 @@ ghost use mathlib.Core.Path.{_≡_};
 ghost use Prim.Native.Nat.{_≤_, min};
 ghost use lib.ListN.{length, take};
 ghost use Rattle.bucket.specs.Crc.{tabulated, nextBy};
-ghost use Rattle.bucket.specs.Lists.{pad, elem};
+ghost use Rattle.bucket.specs.Lists.{pad};
 ghost use Rattle.bucket.specs.Places.{firsts, placesBy, placeCount};
 
 // How many places an element has in a filter of a size.
@@ -68,25 +68,10 @@ fn fill(taken: &mut [u32], found: usize, size: u32, k: usize)
         if n == k {
             return;
         }
-        if !is_taken(taken, n, c) {
+        if !crate::taken::is_taken(taken, n, c) {
             taken[n] = c;
             n += 1;
         }
         c += 1;
     }
-}
-
-// Whether a bucket is one of the first n of those taken.
-pub(crate) fn is_taken(taken: &[u32], n: usize, c: u32) -> bool
-    requires { ⌜ n ≤ length (now taken) ⌝ }
-    ensures { λ r. ⌜ r ≡ elem c (take n (now (taken .entry))) ⌝ }
-{
-    let mut j: usize = 0;
-    while j < n {
-        if taken[j] == c {
-            return true;
-        }
-        j += 1;
-    }
-    false
 }

@@ -51,5 +51,5 @@ pub fn is_place(tab: &[u32; 2048], d: u32, i: u32, size: u32, k: usize) -> bool
         return true;
     }
     let p = crate::places::places(tab, d, size, k);
-    crate::places::is_taken(&p, n, i)
+    crate::taken::is_taken(&p, n, i)
 }

@@ -1,4 +1,4 @@
--- `bucket::places::is_taken` meets its contract. The loop keeps: c is none of the first j. Assumes nothing.
+-- `bucket::taken::is_taken` meets its contract. The loop keeps: c is none of the first j. Assumes nothing.
 use mathlib.Core.Path.{_≡_, sym}
 use mathlib.Core.Bool.{false}
 use Prim.Native.Nat.{_-_, _≤_}
@@ -7,8 +7,8 @@ use borrow.Author.Needs.{needs}
 use lib.ListN.{take}
 use Rattle.bucket.specs.Lists.{elem}
 use Rattle.bucket.proofs.ListLaws.{elem-nil, elem-take, elem-take-more}
-use Rattle.bucket.proofs.places.is_taken.Statement.{statement}
-use Rattle.bucket.proofs.places.is_taken.Tie as tie
+use Rattle.bucket.proofs.taken.is_taken.Statement.{statement}
+use Rattle.bucket.proofs.taken.is_taken.Tie as tie
 
 abbrev Inv-loop : tie.InvT-loop
 Inv-loop taken n c j₀ j = (j ≤ n) × (elem c (take j taken) ≡ false)
