@@ -14,16 +14,13 @@ pub fn place_count(size: u32) -> usize
 }
 
 // The k places, at most four, that draw 0 leads to, in the order in which they are found, and zeros behind them.
-// Fewer than k where the filter has fewer buckets.
+// Fewer than k where the filter has fewer buckets. The search is left at the k-th place.
 pub fn places(tab: &[u32; 2048], d: u32, size: u32, k: usize) -> [u32; 4]
     ensures { λ r. ⌜ r ≡ pad 4 (placesBy (nextBy (now (tab .entry))) (min 4 k) size d) ⌝ }
 {
     let most = crate::least(4, k);
     let mut taken = [0u32; 4];
-    if most == 0 {
-        return taken;
-    }
-    if size == 0 {
+    if crate::least(most, size as usize) == 0 {
         return taken;
     }
     let mut n: usize = 0;

@@ -31,12 +31,6 @@ abbrev μ-draws : tie.MeasureT-draws
 returns : tie.Need-returns Inv-taken μ-taken Inv-draws μ-draws
 unfolding pad
 returns c =
-    let args = c .before .before .args in
-    ap (pad 4) (places-back (nextBy (args .tab .now)) (min 4 (args .k)) (args .size) (args .d) 4 0 (omega arith))
-
-returns-2 : tie.Need-returns-2 Inv-taken μ-taken Inv-draws μ-draws
-unfolding pad
-returns-2 c =
     let args = c .before .before .before .args in
     ap (pad 4) (places-back (nextBy (args .tab .now)) (min 4 (args .k)) (args .size) (args .d) 4 0 (omega arith))
 
@@ -57,7 +51,7 @@ taken-holds c = (c .before .draws .inv, search needs, elem-nil _)
 taken-again : tie.Need-taken-again Inv-taken μ-taken Inv-draws μ-draws
 taken-again c =
     let at = c .before .before .taken in
-    (at .inv .0, search needs, elem-take-more _ (at .taken) (at .j) (omega arith) (at .inv .2) (c .if6 .left))
+    (at .inv .0, search needs, elem-take-more _ (at .taken) (at .j) (omega arith) (at .inv .2) (c .if5 .left))
 
 draws-again : tie.Need-draws-again Inv-taken μ-taken Inv-draws μ-draws
 draws-again c =
@@ -71,24 +65,24 @@ draws-again c =
     rw (w .2, w .3)
     (drawing-skip (at .inv .0) (omega arith) (elem-take _ (at .taken) (at .j) (at .n) (omega arith) (omega arith) (w .1 .taken)) (next .result)
     (next .ensures)))
-    (c .before .if4 .came)
+    (c .before .if3 .came)
+
+returns-2 : tie.Need-returns-2 Inv-taken μ-taken Inv-draws μ-draws
+returns-2 c =
+    let s = c .before .before .before .before .draws .inv in
+    let most = c .before .before .before .before .before .before .before .least .ensures in
+    c .before .fill .ensures ∙ rw (s .search .room, most) (ap (pad 4) (drawing-last s (c .before .before .before .if2 .taken)))
 
 returns-3 : tie.Need-returns-3 Inv-taken μ-taken Inv-draws μ-draws
 returns-3 c =
-    let s = c .before .before .before .before .draws .inv in
-    let most = c .before .before .before .before .before .before .before .least .ensures in
-    c .before .fill .ensures ∙ rw (s .search .room, most) (ap (pad 4) (drawing-last s (c .before .before .before .if3 .taken)))
-
-returns-4 : tie.Need-returns-4 Inv-taken μ-taken Inv-draws μ-draws
-returns-4 c =
     let at = c .before .before .taken in
-    drawing-done (at .inv .0) (omega arith) (rw (c .before .if4 .taken) at (at .inv .2)) (omega arith)
+    drawing-done (at .inv .0) (omega arith) (rw (c .before .if3 .taken) at (at .inv .2)) (omega arith)
 
 pub places-spec : {M : Type 1} → statement M
 places-spec =
     tie.close
     (tie.spec
-    Inv-taken μ-taken Inv-draws μ-draws (λ c κs. search needs) returns returns-2 draws-holds slice-aggregate-fill fill-requires
+    Inv-taken μ-taken Inv-draws μ-draws (λ c κs. search needs) (λ c κs. search needs) returns draws-holds slice-aggregate-fill fill-requires
     (λ c. search needs) taken-holds (λ c. search needs) (λ c. search needs) (λ c. search needs) (λ c. search needs) (λ c. search needs)
-    (λ c. search needs) (λ c. search needs) taken-again (λ c κs. search needs) (λ c. search needs) (λ c. search needs) draws-again returns-3
-    returns-4)
+    (λ c. search needs) (λ c. search needs) taken-again (λ c κs. search needs) (λ c. search needs) (λ c. search needs) draws-again returns-2
+    returns-3)
