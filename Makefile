@@ -26,7 +26,7 @@ HEADERS = include/tandawire.h include/tandawire_inline.h
 EXAMPLES = smallest eleven hostile
 VERSION := $(shell sed -n 's/^.define TANDAWIRE_VERSION "\(.*\)"/\1/p' include/tandawire.h)
 # What the archive is made of: rt proves it again only where one of these has changed.
-SOURCES := $(shell find crates/bucket crates/filter crates/message crates/session crates/tandawire \( -name '*.rt' -o -name '*.antt' \) -not -path '*/must-fail/*')
+SOURCES := $(shell find crates/bucket crates/filter crates/message crates/ledger crates/form crates/session crates/tandawire \( -name '*.rt' -o -name '*.antt' \) -not -path '*/must-fail/*')
 
 all: $(ARCHIVE)
 

@@ -3,6 +3,7 @@ pub mod BitLaws
 pub mod MarkLaws
 pub mod RepeatLaws
 pub mod OrderLaws
+pub mod SetLaws
 pub mod BisectLaws
 pub mod CompareLaws
 pub mod TableLaws
@@ -18,6 +19,7 @@ pub mod TakingLaws
 pub mod PureLaws
 pub mod StepLaws
 pub mod SelectLaws
+pub mod ListLaws
 pub mod SideLaws
 pub mod SumLaws
 pub mod SoundLaws

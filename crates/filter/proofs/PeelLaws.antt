@@ -36,6 +36,7 @@ use Rattle.filter.specs.Peeling.{
 }
 use Rattle.filter.specs.Marks.{Least}
 use Rattle.filter.specs.Steps.{shows}
+use Rattle.filter.proofs.SetLaws.{or-swap}
 
 -- ---- the search
 
@@ -199,13 +200,7 @@ unfolding elem oursOf theirsOf
 listed-sides a [] = refl
 listed-sides a (ours b ∷ l) =
     ap (λ (t : Bool). eqb a b || t) (listed-sides a l) ∙ sym (or-assoc (eqb a b) (elem a (oursOf l)) (elem a (theirsOf l)))
-listed-sides a (theirs b ∷ l) = ap (λ (t : Bool). eqb a b || t) (listed-sides a l) ∙ swap (eqb a b) (elem a (oursOf l)) (elem a (theirsOf l))
-  where
-    swap : (x y z : Bool) → x || (y || z) ≡ y || (x || z)
-    swap true true z = refl
-    swap true false z = refl
-    swap false true z = refl
-    swap false false z = refl
+listed-sides a (theirs b ∷ l) = ap (λ (t : Bool). eqb a b || t) (listed-sides a l) ∙ or-swap (elem a (oursOf l)) (eqb a b) (elem a (theirsOf l))
 
 -- ---- the invariant of a loop that peels: k more peels may be made
 

@@ -41,7 +41,7 @@ pub hash-past : (t : List ℕ) (i : ℕ) → length t / 64 ≤ i → getD (hashe
 hash-past t i h = List·getD-eq-default (hashesOf t) 0 (rw (hashes-length t) h)
 
 -- the ID is what the first eight of the 64 bytes make
-first-eight-part : (at : ℕ) (t : List ℕ) → at + 64 ≤ length t → firstEight (joined 8 (part at 64 t)) ≡ joined 8 (part at 8 t)
+pub first-eight-part : (at : ℕ) (t : List ℕ) → at + 64 ≤ length t → firstEight (joined 8 (part at 64 t)) ≡ joined 8 (part at 8 t)
 unfolding firstEight
 first-eight-part at t h =
     ap (λ (l : List ℕ). joined 8 l / 2 ^ (8 * 56)) (take-add 8 56 (drop at t))

@@ -1,6 +1,7 @@
 -- The definitions of the crate `filter`. A reader has to believe those of the first part; the second is cited by private functions alone.
 pub mod Answers
 pub mod Lists
+pub mod Sets
 pub mod Table
 pub mod Filter
 pub mod Peeling

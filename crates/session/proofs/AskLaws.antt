@@ -17,7 +17,7 @@ use Rattle.bucket.proofs.PackedLaws.{unpacked-length}
 use Rattle.bucket.proofs.TestLaws.{and-fails, and-holds}
 use Rattle.filter.specs.Table.{firstEight, hashesOf, idsOf}
 use Rattle.message.proofs.WholeLaws.{packed-nil, packed-snoc, whole-length, item-there}
-use Rattle.session.specs.Memory.{isAsked, isOffered, isServed}
+use Rattle.ledger.specs.Memory.{isAsked, isOffered, isServed}
 use Rattle.session.specs.Moves.{placeOf, isHeldAt, hashAtPlace, goAll, Walk, walk, isFine, askAt, askOne, askAll, placeOfHash, serveAt, serveOne, serveAll}
 use Rattle.session.specs.Ready.{Walked}
 

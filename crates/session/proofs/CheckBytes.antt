@@ -17,16 +17,12 @@ use Rattle.filter.specs.Table.{hashesOf}
 use Rattle.message.specs.Layout.{done}
 use Rattle.message.specs.Writing.{layouts}
 use Rattle.message.proofs.WholeLaws.{packed-cons, field-here, whole-length}
-use Rattle.session.specs.Memory.{isMet, marked}
+use Rattle.ledger.specs.Memory.{isMet, marked}
+use Rattle.ledger.proofs.BelowLaws.{Fit, hashes-fit, xor-fit}
 use Rattle.session.specs.Moves.{checkOf}
 use Rattle.session.specs.Ready.{Sum}
-use Rattle.session.proofs.PutInLaws.{Hashes, hashes-short}
 
-xor-short : (l : List ℕ) → Hashes l → foldr bitXor 0 l < 2 ^ 512
-xor-short [] short = pow-pos 512
-xor-short (h ∷ l) short = xor-lt 512 h (foldr bitXor 0 l) (short h (elem-head h l)) (xor-short l (λ x e. short x (elem-tail x h l e)))
-
-met-short : (K fs : List ℕ) → Hashes K → foldr bitXor 0 (marked isMet K fs) < 2 ^ 512
+met-short : (K fs : List ℕ) → Fit 512 K → foldr bitXor 0 (marked isMet K fs) < 2 ^ 512
 unfolding marked
 met-short [] fs short = pow-pos 512
 met-short (h ∷ K) [] short = pow-pos 512
@@ -40,7 +36,7 @@ pub check-short : (table known fs : List ℕ) → checkOf (hashesOf table) (hash
 unfolding checkOf
 check-short table known fs =
     xor-lt 512 (foldr bitXor 0 (hashesOf table)) (foldr bitXor 0 (marked isMet (hashesOf known) fs))
-    (xor-short (hashesOf table) (hashes-short table)) (met-short (hashesOf known) fs (hashes-short known))
+    (xor-fit 512 (hashesOf table) (hashes-fit table)) (met-short (hashesOf known) fs (hashes-fit known))
 
 -- a number's bytes
 pub bytes-sum : (x : ℕ) (acc : List ℕ) → acc ≡ packed 512 (x ∷ []) → x < 2 ^ 512 → Sum x acc

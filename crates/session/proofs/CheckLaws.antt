@@ -10,14 +10,15 @@ use borrow.Author.Tests.{eqb-true}
 use Rattle.bucket.specs.Lists.{elem, Distinct}
 use Rattle.bucket.proofs.ListLaws.{elem-head, elem-tail, elem-not-head, elem-not-tail}
 use Rattle.bucket.proofs.XorLaws.{xor-assoc, xor-swap}
-use Rattle.session.specs.Sets.{insert, _∪_}
-use Rattle.session.specs.Session.{Ledger, gaining, unmet, held, checksum}
-use Rattle.session.specs.Memory.{Memory, isMet, marked, decode}
+use Rattle.filter.specs.Sets.{insert, _∪_}
+use Rattle.ledger.specs.Session.{Ledger, gaining, unmet, held, checksum}
+use Rattle.ledger.specs.Memory.{Memory, isMet, decode}
 use Rattle.session.specs.Moves.{checkOf}
-use Rattle.session.proofs.SetLaws.{_∈_, clash, not-in-nil, not-in, in-cons, elem-∪, in-∪-l, in-∪-r, insert-in, insert-asc, Asc, asc-distinct}
-use Rattle.session.proofs.ListLaws.{Apart}
-use Rattle.session.proofs.BookLaws.{Books}
-use Rattle.session.proofs.HeldLaws.{unmet-in}
+use Rattle.filter.proofs.SetLaws.{_∈_, clash, not-in, elem-∪, in-∪-l, in-∪-r, insert-in, insert-asc, Asc, asc-distinct}
+use Rattle.filter.proofs.ListLaws.{Apart}
+use Rattle.ledger.proofs.BookLaws.{Books}
+use Rattle.ledger.proofs.HeldLaws.{unmet-in}
+use Rattle.ledger.proofs.MemoryLaws.{marked-in, marked-asc}
 
 -- ---- sums of sets
 
@@ -43,30 +44,6 @@ xor-∪ (a ∷ l) m d h =
     ∙ sym (xor-assoc a (foldr bitXor 0 l) (foldr bitXor 0 m))
 
 -- ---- hashes that are marked
-
-pub marked-in : (p : ℕ → Bool) (hs ms : List ℕ) (x : ℕ) → x ∈ marked p hs ms → x ∈ hs
-unfolding marked
-marked-in p [] ms x e = e
-marked-in p (h ∷ hs) [] x e = absurd (not-in-nil x e)
-marked-in p (h ∷ hs) (m ∷ ms) x e = go (p m) e (marked-in p hs ms x)
-  where
-    go : (b : Bool) → x ∈ cond b (h ∷ marked p hs ms) (marked p hs ms) → (x ∈ marked p hs ms → x ∈ hs) → x ∈ h ∷ hs
-    go true k ih = at (in-cons x h (marked p hs ms) k)
-      where
-        at : (x ≡ h) ⊎ (x ∈ marked p hs ms) → x ∈ h ∷ hs
-        at (inl q) = rw q (elem-head h hs)
-        at (inr q) = elem-tail x h hs (ih q)
-    go false k ih = elem-tail x h hs (ih k)
-
-pub marked-asc : (p : ℕ → Bool) (hs ms : List ℕ) → Asc hs → Asc (marked p hs ms)
-unfolding marked
-marked-asc p [] ms h = tt
-marked-asc p (a ∷ hs) [] h = tt
-marked-asc p (a ∷ hs) (m ∷ ms) h = go (p m) (marked-asc p hs ms (h .1))
-  where
-    go : (b : Bool) → Asc (marked p hs ms) → Asc (cond b (a ∷ marked p hs ms) (marked p hs ms))
-    go true ih = (λ y e. h .0 y (marked-in p hs ms y e), ih)
-    go false ih = ih
 
 -- ---- the checksum
 
@@ -105,9 +82,6 @@ module _ (derive : ℕ → ℕ) (t : List ℕ) where
   module _ (L : Ledger) (b : Books derive t L) where
     gained-apart : Apart (L .gained) t
     gained-apart x e = b .demandedNew x (b .gainedDemanded x e)
-
-    pub check-books : checksum derive t L ≡ bitXor (foldr bitXor 0 t) (foldr bitXor 0 (L .gained))
-    check-books = check-held L (b .gainedAsc) gained-apart
 
     pub check-element : (h : ℕ) → h ∈ unmet L → checksum derive t (gaining h L) ≡ bitXor (checksum derive t L) h
     unfolding held

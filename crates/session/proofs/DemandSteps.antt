@@ -9,13 +9,14 @@ use Rattle.bucket.specs.Lists.{over, part}
 use Rattle.bucket.proofs.OverLaws.{part-length}
 use Rattle.filter.specs.Table.{firstEight}
 use Rattle.message.proofs.WholeLaws.{part-below, whole-back}
-use Rattle.session.specs.declared.numbers.Numbers.{Numbers}
-use Rattle.session.specs.declared.numbers.Answer.{Answer}
-use Rattle.session.specs.Grid.{entry}
-use Rattle.session.specs.Calls.{answered}
+use Rattle.ledger.specs.declared.numbers.Numbers.{Numbers}
+use Rattle.ledger.specs.declared.numbers.Answer.{Answer}
+use Rattle.ledger.specs.Grid.{entry}
+use Rattle.ledger.specs.Calls.{answered}
 use Rattle.session.specs.Moves.{Walk, serveAll}
 use Rattle.session.specs.Ready.{Walked}
-use Rattle.session.specs.Turns.{aborted, onward, markTurn, demandTurn}
+use Rattle.form.specs.Answers.{aborted, onward}
+use Rattle.session.specs.Turns.{markTurn, demandTurn}
 use Rattle.session.proofs.CopyLaws.{copied-out, copied-back}
 
 module _ (N : Numbers) (t K hs M out : List ℕ) where

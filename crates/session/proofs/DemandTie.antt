@@ -1,6 +1,6 @@
 -- DEMAND: what the walk over its hashes does to the marks is what the session serves, and its turn is the step. Assumes nothing.
 use mathlib.Core.Path.{_≡_, refl, sym, ap, ap₂, subst, _∙_}
-use mathlib.Core.Bool.{Bool, true, false, not, _&&_, _||_, cond}
+use mathlib.Core.Bool.{Bool, true, false, not, _&&_, cond}
 use mathlib.Core.List.{List, [], _∷_}
 use Prim.Native.Nat.{ℕ, _+_, _*_, _≤_}
 use lib.ListN.{length, getD, set, take}
@@ -8,25 +8,29 @@ use borrow.Author.Tests.{not-true}
 use Rattle.bucket.specs.Digits.{packed}
 use Rattle.bucket.specs.Lists.{elem, over}
 use Rattle.bucket.proofs.ListLaws.{elem-cases}
+use Rattle.filter.specs.declared.answers.Refusal.the-variants.{OutOfTurn, Breach}
+use Rattle.filter.specs.Answers.{refusalNumber, firstOf}
 use Rattle.filter.specs.Table.{firstEight, hashesOf}
 use Rattle.message.specs.Layout.{demand}
 use Rattle.message.specs.Writing.{layouts}
-use Rattle.session.specs.declared.numbers.Numbers.{Numbers}
-use Rattle.session.specs.Sets.{insert, _∪_, all, once}
-use Rattle.session.specs.Grid.{entry}
-use Rattle.session.specs.Session.{Ledger, serving, acts, firstFault, faults, refusal, act, refused}
-use Rattle.session.specs.Calls.{Given, Left, left, answered, tableOf, hashGiven, sessionOf, stepOn}
+use Rattle.ledger.specs.declared.numbers.Numbers.{Numbers}
+use Rattle.filter.specs.Sets.{insert, _∪_, all, once}
+use Rattle.ledger.specs.Grid.{entry}
+use Rattle.ledger.specs.Session.{Ledger, serving, tests, refusal, change}
+use Rattle.ledger.specs.Calls.{Given, Left, left, answered, tableOf, sessionOf, stepOn}
 use Rattle.session.specs.Moves.{placeOfHash, goAll, Walk, walk, isFine, serveAt, serveOne, serveAll}
-use Rattle.session.specs.Turns.{MarkTurn, markTurn, aborted, onward, demandTurn}
-use Rattle.session.proofs.SetLaws.{_∈_, clash, and-l, and-r, not-in-nil, elem-cons, elem-insert}
-use Rattle.session.proofs.ListLaws.{once-same}
-use Rattle.session.proofs.KeptLaws.{books-serving}
-use Rattle.session.proofs.ActLaws.{serving-cons}
-use Rattle.session.proofs.Sound.{Sound}
-use Rattle.session.proofs.GivenLaws.{given-demanded}
-use Rattle.session.proofs.LaidLaws.{laidMarks}
+use Rattle.form.specs.Answers.{aborted, onward}
+use Rattle.session.specs.Turns.{MarkTurn, markTurn, demandTurn}
+use Rattle.filter.proofs.SetLaws.{_∈_, clash, and-l, and-r, not-in-nil, elem-cons, elem-insert}
+use Rattle.filter.proofs.ListLaws.{once-same}
+use Rattle.ledger.proofs.GridLaws.{admitted-other}
+use Rattle.ledger.proofs.KeptLaws.{books-serving}
+use Rattle.ledger.proofs.ActLaws.{serving-cons}
+use Rattle.ledger.proofs.Sound.{Sound}
+use Rattle.ledger.proofs.GivenLaws.{given-demanded, same-records}
+use Rattle.ledger.proofs.LaidLaws.{laidMarks}
 use Rattle.session.proofs.PlaceTie.{Ordered, serve-test, serve-set}
-use Rattle.session.proofs.TurnTie.{given-ordered, front-room, front-marks, marks-back, admitted-tie, refused-tie, onward-tie}
+use Rattle.session.proofs.TurnLaws.{sessionIn, ledgerIn, demandedIn, leaves, refusalIn, changeIn, given-ordered, given-done, given-long, front-room, front-marks, marks-back, halted-tie, change-tie}
 
 -- "hashes offered and not demanded before"
 abbrev servable : Ledger → ℕ → Bool
@@ -132,7 +136,7 @@ module _ (G : Given) (s : Sound G) (hs : List ℕ) where
   N = G .numbers
 
   abbrev L : Ledger
-  L = sessionOf firstEight G .ledger
+  L = ledgerIn G
 
   -- the turn, of its tests and a walk
   abbrev turnBy : Bool → Bool → Walk → MarkTurn
@@ -142,13 +146,13 @@ module _ (G : Given) (s : Sound G) (hs : List ℕ) where
       (markTurn (aborted 7 N) (G .marks) (G .out)))
       (markTurn (aborted 5 N) (G .marks) (G .out))
 
-  abbrev leaves : MarkTurn → Left
-  leaves x = left (x .answer) (G .records) (x .marks) (G .inquired) (G .columns) (G .ours) (G .theirs) (x .out)
+  abbrev leavesOf : MarkTurn → Left
+  leavesOf x = leaves G (x .answer) (G .records) (x .marks) (x .out)
 
   walked : Walk
   walked = walkOver firstEight (tableOf G) (take 8192 (G .marks)) (front-room G s) L hs
 
-  is-walked : serveAll firstEight (tableOf G) (hashesOf (take (64 * N .demanded) (G .records))) hs (take 8192 (G .marks)) ≡ walked
+  is-walked : serveAll firstEight (tableOf G) (demandedIn G) hs (take 8192 (G .marks)) ≡ walked
   unfolding walked
   is-walked =
       ap₂ (λ (k m : List ℕ). serveAll firstEight (tableOf G) k hs m) (sym (given-demanded G s)) (sym (front-marks G s))
@@ -157,46 +161,33 @@ module _ (G : Given) (s : Sound G) (hs : List ℕ) where
   unfolding walked
   served = serve-walk firstEight (tableOf G) (take 8192 (G .marks)) (front-room G s) hs L (given-ordered G s)
 
-  refusal-is : refusal firstEight (tableOf G) (hashGiven G) (sessionOf firstEight G) (demand hs)
-      ≡ cond (entry (N .state) 4) (cond (not (all (λ x. elem x (L .offered)) hs) || not (once (L .served) hs)) 7 0) 5
-  unfolding refusal faults firstFault sessionOf
-  refusal-is =
-      ap (λ (b : Bool). cond b (cond (not (all (λ x. elem x (L .offered)) hs) || not (once (L .served) hs)) 7 0) 5) (admitted-tie G s (demand hs) refl)
+  demand-refusal : {a b : Bool} → entry (N .state) 4 ≡ a → walked .fine ≡ b → refusalIn G (demand hs) ≡ refusalNumber (firstOf ((OutOfTurn, a) ∷ (Breach, b) ∷ []))
+  unfolding refusal tests sessionOf
+  demand-refusal e g = λ i.
+      refusalNumber (firstOf ((OutOfTurn, (admitted-other (sessionIn G) (demand hs) refl ∙ e) i) ∷ (Breach, (sym (served .fine) ∙ g) i) ∷ []))
 
-  refusal-by : (a b : Bool) → entry (N .state) 4 ≡ a → walked .fine ≡ b
-      → refusal firstEight (tableOf G) (hashGiven G) (sessionOf firstEight G) (demand hs) ≡ cond a (cond b 0 7) 5
-  refusal-by a b e g =
-      refusal-is
-      ∙ ap₂ (λ (p : Bool) (n : ℕ). cond p n 5) e (both (all (λ x. elem x (L .offered)) hs) (once (L .served) hs))
-      ∙ ap (λ (q : Bool). cond a (cond q 0 7) 5) (sym (served .fine) ∙ g)
-    where
-      both : (p q : Bool) → _≡_ {A = ℕ} (cond (not p || not q) 7 0) (cond (p && q) 0 7)
-      both true true = refl
-      both true false = refl
-      both false q = refl
-
-  refused-by : (n : ℕ) → refusal firstEight (tableOf G) (hashGiven G) (sessionOf firstEight G) (demand hs) ≡ n → acts n ≡ false
-      → leaves (markTurn (aborted n N) (G .marks) (G .out)) ≡ stepOn firstEight (demand hs) G
-  unfolding refused
-  refused-by n is off = refused-tie G s (demand hs) n is off refl
-
-  acted : walked .fine ≡ true → refusal firstEight (tableOf G) (hashGiven G) (sessionOf firstEight G) (demand hs) ≡ 0
-      → leaves (turnBy true true walked) ≡ stepOn firstEight (demand hs) G
-  unfolding act layouts
+  acted : walked .fine ≡ true → refusalIn G (demand hs) ≡ 0 → leavesOf (turnBy true true walked) ≡ stepOn firstEight (demand hs) G
+  unfolding change sessionOf layouts
   acted g is =
-      ap (λ (ms : List ℕ). leaves (markTurn (answered 0 0 (length hs) (onward N)) ms (over 0 (packed 512 hs) (G .out))))
-      (ap (λ (ms : List ℕ). over 0 ms (G .marks)) (served .laid (sym (served .fine) ∙ g))
-      ∙ marks-back G s (serving hs L) refl)
-      ∙ onward-tie G s (demand hs) (serving hs L) [] hs refl refl refl is refl
+      change-tie G s (demand hs) refl (changeIn G (demand hs)) (N .done) (N .demanded) (G .records) (over 0 (walked .marks) (G .marks)) (over 0 (packed 512 hs) (G .out))
+      (record {
+        inquired = refl;
+        went = given-done G s;
+        count = given-long G s;
+        records = same-records G s;
+        marks = sym (ap (λ (ms : List ℕ). over 0 ms (G .marks)) (served .laid (sym (served .fine) ∙ g)) ∙ marks-back G s (serving hs L) refl);
+        out = refl;
+      })
+      is refl
 
-  by-cases : (a b : Bool) → entry (N .state) 4 ≡ a → walked .fine ≡ b → leaves (turnBy a b walked) ≡ stepOn firstEight (demand hs) G
-  by-cases false b e g = refused-by 5 (refusal-by false b e g) refl
-  by-cases true false e g = refused-by 7 (refusal-by true false e g) refl
-  by-cases true true e g = acted g (refusal-by true true e g)
+  by-cases : (a b : Bool) → entry (N .state) 4 ≡ a → walked .fine ≡ b → leavesOf (turnBy a b walked) ≡ stepOn firstEight (demand hs) G
+  by-cases false b e g = halted-tie G s (demand hs) 5 refl refl (demand-refusal e g)
+  by-cases true false e g = halted-tie G s (demand hs) 7 refl refl (demand-refusal e g)
+  by-cases true true e g = acted g (demand-refusal e g)
 
   pub demand-tie :
       let x = demandTurn N (tableOf G) (hashesOf (take (64 * N .demanded) (G .records))) hs (G .marks) (G .out) in
       left (x .answer) (G .records) (x .marks) (G .inquired) (G .columns) (G .ours) (G .theirs) (x .out) ≡ stepOn firstEight (demand hs) G
   unfolding demandTurn
   demand-tie =
-      ap (λ (w : Walk). leaves (turnBy (entry (N .state) 4) (w .fine) w)) is-walked ∙ by-cases (entry (N .state) 4) (walked .fine) refl refl
+      ap (λ (w : Walk). leavesOf (turnBy (entry (N .state) 4) (w .fine) w)) is-walked ∙ by-cases (entry (N .state) 4) (walked .fine) refl refl

@@ -10,13 +10,14 @@ use Rattle.bucket.specs.Lists.{over, part}
 use Rattle.filter.specs.Table.{hashesOf}
 use Rattle.message.specs.Layout.{done}
 use Rattle.message.specs.Writing.{layouts}
-use Rattle.session.specs.declared.numbers.Numbers.{Numbers}
-use Rattle.session.specs.declared.numbers.Answer.{Answer}
-use Rattle.session.specs.Grid.{ACTIVE, PASSIVE, CLOSING, WAITING, FINISHED, entry}
-use Rattle.session.specs.Calls.{answered}
+use Rattle.ledger.specs.declared.numbers.Numbers.{Numbers}
+use Rattle.ledger.specs.declared.numbers.Answer.{Answer}
+use Rattle.ledger.specs.Grid.{ACTIVE, PASSIVE, CLOSING, WAITING, FINISHED, entry}
+use Rattle.ledger.specs.Calls.{answered}
 use Rattle.session.specs.Moves.{checkOf}
 use Rattle.session.specs.Ready.{Sum}
-use Rattle.session.specs.Turns.{aborted, closed, EndTurn, endTurn, doneTurn}
+use Rattle.form.specs.Answers.{aborted, closed}
+use Rattle.session.specs.Turns.{EndTurn, endTurn, doneTurn}
 use Rattle.session.proofs.CheckBytes.{check-short, bytes-sum}
 
 -- the checksum of the table and of the met ones of the first n hashes of records

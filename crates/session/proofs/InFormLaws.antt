@@ -1,10 +1,10 @@
 -- Where a step is given its form, the messages' functions have what they count on.
 use native.Mathlib.Omega.{arith}
-use Rattle.session.specs.Calls.{Given}
+use Rattle.ledger.specs.Calls.{Given}
 use Rattle.session.specs.Judged.{InForm}
-use Rattle.session.proofs.Sound.{Sound}
-use Rattle.session.proofs.GivenLaws.{given-table, given-known, given-few, given-rooms}
-use Rattle.session.proofs.TallyLaws.{tallyGiven, tally-few}
+use Rattle.ledger.proofs.Sound.{Sound}
+use Rattle.ledger.proofs.GivenLaws.{given-table, given-known, given-few, given-rooms}
+use Rattle.form.proofs.TallyLaws.{tallyGiven, tally-few}
 
 pub in-form : (G : Given) → Sound G → InForm (G .numbers) (G .table) (G .records) (G .marks) (G .inquired) (G .hash) (G .out) (tallyGiven G)
 in-form G s =

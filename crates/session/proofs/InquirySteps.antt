@@ -13,16 +13,17 @@ use Rattle.bucket.specs.Digits.{packed}
 use Rattle.bucket.specs.Lists.{over, part}
 use Rattle.filter.specs.Table.{firstEight, hashesOf}
 use Rattle.message.specs.Writing.{layouts, offersOf}
-use Rattle.session.specs.declared.numbers.Numbers.{Numbers}
-use Rattle.session.specs.declared.numbers.Answer.{Answer}
-use Rattle.session.specs.Grid.{entry}
-use Rattle.session.specs.Calls.{answered}
+use Rattle.ledger.specs.declared.numbers.Numbers.{Numbers}
+use Rattle.ledger.specs.declared.numbers.Answer.{Answer}
+use Rattle.ledger.specs.Grid.{entry}
+use Rattle.ledger.specs.Calls.{answered}
+use Rattle.ledger.proofs.BelowLaws.{hashes-written}
 use Rattle.session.specs.Moves.{Walk, askAll}
 use Rattle.session.specs.Ready.{Walked}
-use Rattle.session.specs.Turns.{MarkTurn, aborted, onward, markTurn, inquiryTurn}
+use Rattle.form.specs.Answers.{aborted, onward}
+use Rattle.session.specs.Turns.{MarkTurn, markTurn, inquiryTurn}
 use Rattle.session.proofs.CopyLaws.{copied-out, copied-back}
-use Rattle.session.proofs.PutInLaws.{hashes-written}
-use Rattle.session.proofs.ListRooms.{offers-room}
+use Rattle.ledger.proofs.RoomLaws.{offers-room}
 use Rattle.session.proofs.WalkedLaws.{Asked, asked-all}
 
 -- ---- the walk

@@ -9,29 +9,32 @@ use lib.Dec.{eqb, leb}
 use lib.ListN.{length, getD, set, take, length-append}
 use borrow.Author.Tests.{lt-leb}
 use Rattle.bucket.specs.Lists.{elem, over}
+use Rattle.filter.specs.declared.answers.Refusal.the-variants.{OutOfTurn, Breach}
+use Rattle.filter.specs.Answers.{refusalNumber, firstOf}
 use Rattle.filter.specs.Table.{firstEight, hashesOf}
 use Rattle.message.specs.Layout.{Content, inquiry}
 use Rattle.message.specs.Writing.{layouts, offersOf}
-use Rattle.message.proofs.WholeLaws.{packed-nil}
-use Rattle.session.specs.declared.numbers.Numbers.{Numbers}
-use Rattle.session.specs.Grid.{entry}
-use Rattle.session.specs.Calls.{Given, Left, left, answered, tableOf, hashGiven, sessionOf, stepOn}
-use Rattle.session.specs.Turns.{MarkTurn, markTurn, aborted, onward, inquiryTurn}
-use Rattle.session.proofs.Sound.{Sound}
-use Rattle.session.proofs.GivenLaws.{given-demanded}
-use Rattle.session.proofs.TurnTie.{given-ordered, front-room, front-marks, marks-back, admitted-tie, refused-tie, onward-tie}
+use Rattle.ledger.specs.declared.numbers.Numbers.{Numbers}
+use Rattle.ledger.specs.Grid.{entry}
+use Rattle.ledger.specs.Calls.{Given, Left, left, answered, tableOf, sessionOf, stepOn}
+use Rattle.form.specs.Answers.{aborted, onward}
+use Rattle.session.specs.Turns.{MarkTurn, markTurn, inquiryTurn}
+use Rattle.ledger.proofs.Sound.{Sound}
+use Rattle.ledger.proofs.GivenLaws.{given-demanded, same-records}
+use Rattle.session.proofs.TurnLaws.{sessionIn, ledgerIn, demandedIn, leaves, refusalIn, changeIn, sent-only, given-ordered, given-done, given-long, front-room, front-marks, marks-back, halted-tie, change-tie}
 use Rattle.bucket.proofs.ListLaws.{distinct-count, elem-cases}
 use Rattle.filter.specs.Lists.{select}
-use Rattle.session.specs.Sets.{insert, _∪_, once}
-use Rattle.session.specs.Session.{Ledger, held, heldIds, hashOf, concerned, asks, hashesFor, asking, acts, firstFault, faults, refusal, act, refused}
-use Rattle.session.specs.Memory.{isAsked}
+use Rattle.filter.specs.Sets.{insert, _∪_, once}
+use Rattle.ledger.specs.Session.{Ledger, held, heldIds, hashOf, concerned, asks, hashesFor, asking, tests, refusal, change}
+use Rattle.ledger.specs.Memory.{isAsked}
 use Rattle.session.specs.Moves.{placeOf, hashAtPlace, goAll, Walk, walk, isFine, askAt, askOne, askAll}
-use Rattle.session.proofs.SetLaws.{_∈_, _⊆_, clash, not-in-nil, in-∪-l, elem-cons, elem-insert, asc-distinct}
-use Rattle.session.proofs.ListLaws.{once-same}
-use Rattle.session.proofs.HeldLaws.{in-concerned}
-use Rattle.session.proofs.KeptLaws.{books-asking}
-use Rattle.session.proofs.ActLaws.{asking-cons}
-use Rattle.session.proofs.LaidLaws.{laidMarks}
+use Rattle.filter.proofs.SetLaws.{_∈_, _⊆_, clash, not-in-nil, in-∪-l, elem-cons, elem-insert, asc-distinct}
+use Rattle.filter.proofs.ListLaws.{once-same}
+use Rattle.ledger.proofs.HeldLaws.{in-concerned}
+use Rattle.ledger.proofs.GridLaws.{admitted-other}
+use Rattle.ledger.proofs.KeptLaws.{books-asking}
+use Rattle.ledger.proofs.ActLaws.{asking-cons}
+use Rattle.ledger.proofs.LaidLaws.{laidMarks}
 use Rattle.session.proofs.PlaceTie.{Ordered, held-at, hash-there, asked-at, ask-set}
 
 module _ (derive : ℕ → ℕ) (t M : List ℕ) (room : 8192 ≤ length M) where
@@ -189,7 +192,7 @@ module _ (G : Given) (s : Sound G) (salt : ℕ) (xs : List ℕ) where
   N = G .numbers
 
   abbrev L : Ledger
-  L = sessionOf firstEight G .ledger
+  L = ledgerIn G
 
   abbrev found : List ℕ
   found = asks firstEight (tableOf G) L xs
@@ -205,13 +208,13 @@ module _ (G : Given) (s : Sound G) (salt : ℕ) (xs : List ℕ) where
       (markTurn (aborted 7 N) (G .marks) (G .out)))
       (markTurn (aborted 5 N) (G .marks) (G .out))
 
-  abbrev leaves : MarkTurn → Left
-  leaves x = left (x .answer) (G .records) (x .marks) (G .inquired) (G .columns) (G .ours) (G .theirs) (x .out)
+  abbrev leavesOf : MarkTurn → Left
+  leavesOf x = leaves G (x .answer) (G .records) (x .marks) (x .out)
 
   walked : Walk
   walked = goAll isFine (askOne firstEight (tableOf G) (L .demanded)) xs (walk true (laidMarks firstEight (tableOf G) L (take 8192 (G .marks))) [])
 
-  is-walked : askAll firstEight (tableOf G) (hashesOf (take (64 * N .demanded) (G .records))) xs (take 8192 (G .marks)) ≡ walked
+  is-walked : askAll firstEight (tableOf G) (demandedIn G) xs (take 8192 (G .marks)) ≡ walked
   unfolding walked
   is-walked =
       ap₂ (λ (k m : List ℕ). askAll firstEight (tableOf G) k xs m) (sym (given-demanded G s)) (sym (front-marks G s))
@@ -220,55 +223,44 @@ module _ (G : Given) (s : Sound G) (salt : ℕ) (xs : List ℕ) where
   unfolding walked
   asked = ask-walk firstEight (tableOf G) (take 8192 (G .marks)) (front-room G s) xs L (given-ordered G s) [] (omega arith)
 
-  refusal-is : refusal firstEight (tableOf G) (hashGiven G) (sessionOf firstEight G) (inquiry salt xs)
-      ≡ cond (entry (N .state) 2) (cond (not (eqb salt (N .salt)) || not (once (L .asked) found)) 7 0) 5
-  unfolding refusal faults firstFault sessionOf
-  refusal-is =
-      ap (λ (b : Bool). cond b (cond (not (eqb salt (N .salt)) || not (once (L .asked) found)) 7 0) 5) (admitted-tie G s (inquiry salt xs) refl)
+  inquiry-refusal : {a b c : Bool} → entry (N .state) 2 ≡ a → eqb salt (N .salt) ≡ b → walked .fine ≡ c
+      → refusalIn G (inquiry salt xs) ≡ refusalNumber (firstOf ((OutOfTurn, a) ∷ (Breach, b && c) ∷ []))
+  unfolding refusal tests sessionOf
+  inquiry-refusal e f g = λ i.
+      refusalNumber (firstOf ((OutOfTurn, (admitted-other (sessionIn G) (inquiry salt xs) refl ∙ e) i) ∷ (Breach, f i && (sym (asked .fine) ∙ g) i) ∷ []))
 
-  refusal-by : (a b c : Bool) → entry (N .state) 2 ≡ a → eqb salt (N .salt) ≡ b → walked .fine ≡ c
-      → refusal firstEight (tableOf G) (hashGiven G) (sessionOf firstEight G) (inquiry salt xs) ≡ cond a (cond (not b || not c) 7 0) 5
-  refusal-by a b c e f g =
-      refusal-is
-      ∙ ap₂ (λ (p q : Bool). cond p (cond (not q || not (once (L .asked) found)) 7 0) 5) e f
-      ∙ ap (λ (r : Bool). cond a (cond (not b || not r) 7 0) 5) (sym (asked .fine) ∙ g)
-
-  refused-by : (n : ℕ) → refusal firstEight (tableOf G) (hashGiven G) (sessionOf firstEight G) (inquiry salt xs) ≡ n → acts n ≡ false
-      → leaves (markTurn (aborted n N) (G .marks) (G .out)) ≡ stepOn firstEight (inquiry salt xs) G
-  unfolding refused
-  refused-by n is off = refused-tie G s (inquiry salt xs) n is off refl
-
-  acted : (walked .fine ≡ true) → refusal firstEight (tableOf G) (hashGiven G) (sessionOf firstEight G) (inquiry salt xs) ≡ 0
-      → leaves (turnBy true true true walked) ≡ stepOn firstEight (inquiry salt xs) G
-  unfolding act
+  acted : walked .fine ≡ true → refusalIn G (inquiry salt xs) ≡ 0 → leavesOf (turnBy true true true walked) ≡ stepOn firstEight (inquiry salt xs) G
+  unfolding change sessionOf
   acted g is =
-      ap₂ (λ (ms hs : List ℕ). leaves (markTurn (answered 0 (length (layouts (offersOf hs))) 0 (onward N)) ms (over 0 (layouts (offersOf hs)) (G .out))))
-      (ap (λ (ms : List ℕ). over 0 ms (G .marks)) (asked .laid all)
-      ∙ marks-back G s next refl)
-      (asked .gathered all)
-      ∙ ap (λ (l : List ℕ). leaves (markTurn (answered 0 (length (layouts sent)) 0 (onward N)) (laidMarks firstEight (tableOf G) next (G .marks)) (over 0 l (G .out))))
-      (sym (ap (λ (l : List ℕ). layouts sent ++ l) (packed-nil 64) ∙ append-nil (layouts sent)))
-      ∙ onward-tie G s (inquiry salt xs) next sent [] refl refl refl is refl
+      ap (λ (hs : List ℕ). leavesOf (markTurn (answered 0 (length (layouts (offersOf hs))) 0 (onward N)) (over 0 (walked .marks) (G .marks)) (over 0 (layouts (offersOf hs)) (G .out))))
+      (asked .gathered fine)
+      ∙ change-tie G s (inquiry salt xs) refl (changeIn G (inquiry salt xs)) (N .done) (N .demanded) (G .records) (over 0 (walked .marks) (G .marks)) (over 0 (layouts sent) (G .out))
+      (record {
+        inquired = refl;
+        went = given-done G s;
+        count = given-long G s;
+        records = same-records G s;
+        marks = sym (ap (λ (ms : List ℕ). over 0 ms (G .marks)) (asked .laid fine) ∙ marks-back G s (asking firstEight (tableOf G) found L) refl);
+        out = sent-only sent (G .out);
+      })
+      is refl
     where
-      all : once (L .asked) found ≡ true
-      all = sym (asked .fine) ∙ g
-
-      next : Ledger
-      next = asking firstEight (tableOf G) found L
+      fine : once (L .asked) found ≡ true
+      fine = sym (asked .fine) ∙ g
 
       sent : List Content
       sent = offersOf (hashesFor firstEight (tableOf G) L found)
 
-  by-cases : (a b c : Bool) → entry (N .state) 2 ≡ a → eqb salt (N .salt) ≡ b → walked .fine ≡ c → leaves (turnBy a b c walked) ≡ stepOn firstEight (inquiry salt xs) G
-  by-cases false b c e f g = refused-by 5 (refusal-by false b c e f g) refl
-  by-cases true false c e f g = refused-by 7 (refusal-by true false c e f g) refl
-  by-cases true true false e f g = refused-by 7 (refusal-by true true false e f g) refl
-  by-cases true true true e f g = acted g (refusal-by true true true e f g)
+  by-cases : (a b c : Bool) → entry (N .state) 2 ≡ a → eqb salt (N .salt) ≡ b → walked .fine ≡ c → leavesOf (turnBy a b c walked) ≡ stepOn firstEight (inquiry salt xs) G
+  by-cases false b c e f g = halted-tie G s (inquiry salt xs) 5 refl refl (inquiry-refusal e f g)
+  by-cases true false c e f g = halted-tie G s (inquiry salt xs) 7 refl refl (inquiry-refusal e f g)
+  by-cases true true false e f g = halted-tie G s (inquiry salt xs) 7 refl refl (inquiry-refusal e f g)
+  by-cases true true true e f g = acted g (inquiry-refusal e f g)
 
   pub inquiry-tie :
       let x = inquiryTurn N (tableOf G) (hashesOf (take (64 * N .demanded) (G .records))) salt xs (G .marks) (G .out) in
       left (x .answer) (G .records) (x .marks) (G .inquired) (G .columns) (G .ours) (G .theirs) (x .out) ≡ stepOn firstEight (inquiry salt xs) G
   unfolding inquiryTurn
   inquiry-tie =
-      ap (λ (w : Walk). leaves (turnBy (entry (N .state) 2) (eqb salt (N .salt)) (w .fine) w)) is-walked
+      ap (λ (w : Walk). leavesOf (turnBy (entry (N .state) 2) (eqb salt (N .salt)) (w .fine) w)) is-walked
       ∙ by-cases (entry (N .state) 2) (eqb salt (N .salt)) (walked .fine) refl refl refl

@@ -15,6 +15,7 @@ use Rattle.bucket.specs.Packing.{countersAt}
 use Rattle.bucket.proofs.TestLaws.{and-holds}
 use Rattle.filter.specs.declared.answers.Refusal.the-variants.{None}
 use Rattle.filter.specs.Calls.{inRange, areCounts, hasRoom, readRefusal}
+use Rattle.filter.specs.Sets.{implies}
 use Rattle.filter.specs.Table.{firstEight, isTable}
 use Rattle.message.specs.declared.kinds.Message.{Message}
 use Rattle.message.specs.declared.kinds.Message.the-variants.{Ibf, IbfLast, Malformed}
@@ -24,18 +25,18 @@ use Rattle.message.specs.Reading.{content}
 use Rattle.message.specs.Walking.{exactlyOne}
 use Rattle.message.proofs.ShapeLaws.{Sliced, shape, last-reaches, other-stops}
 use Rattle.message.proofs.SoundLaws.{sound}
-use Rattle.session.specs.Grid.{EXPECTING-LAST, isLast}
-use Rattle.session.specs.Session.{placed}
-use Rattle.session.specs.Form.{goodNumbers}
-use Rattle.session.specs.Calls.{Given, sessionOf, readable, goodFront, goodForm, hasLedgerRoom, hasRooms}
-use Rattle.session.specs.Turns.{isPlaced}
+use Rattle.ledger.specs.Grid.{EXPECTING-LAST, isLast}
+use Rattle.ledger.specs.Session.{placed}
+use Rattle.ledger.specs.Form.{goodNumbers, idle}
+use Rattle.ledger.specs.Calls.{Given, sessionOf, readable, countsNothing, goodFront, goodForm, hasLedgerRoom, hasRooms}
+use Rattle.form.specs.Answers.{isPlaced}
 use Rattle.session.specs.Ready.{Lays, Reads}
-use Rattle.session.proofs.SetLaws.{and-l, and-r}
-use Rattle.session.proofs.ListLaws.{implies-of}
-use Rattle.session.proofs.FaultLaws.{Ranges, ranges}
-use Rattle.session.proofs.LastLaws.{last-granted}
-use Rattle.session.proofs.Sound.{Sound}
-use Rattle.session.proofs.GivenLaws.{given-table, given-rooms}
+use Rattle.filter.proofs.SetLaws.{and-l, and-r}
+use Rattle.filter.proofs.ListLaws.{implies-of}
+use Rattle.ledger.proofs.FaultLaws.{Ranges, ranges}
+use Rattle.ledger.proofs.LastLaws.{last-granted}
+use Rattle.ledger.proofs.Sound.{Sound}
+use Rattle.ledger.proofs.GivenLaws.{given-table, given-rooms}
 
 -- ---- messages
 
@@ -79,11 +80,12 @@ module _ (bs : List ℕ) (size offset salt width n : ℕ) where
 module _ (G : Given) (s : Sound G) where
   -- in state 1 the columns were judged
   pub given-counts : eqb (G .numbers .state) EXPECTING-LAST ≡ true → areCounts 2520 (G .columns .counts) ≡ true
-  unfolding goodForm goodFront
+  unfolding goodForm goodFront sessionOf
   given-counts e =
       implies-of (eqb (G .numbers .state) EXPECTING-LAST) (areCounts 2520 (G .columns .counts))
+      (and-r (implies (idle (sessionOf firstEight G)) (countsNothing (G .numbers))) _
       (and-r (goodNumbers (sessionOf firstEight G)) _
-      (and-r (readable (G .numbers)) _ (and-r (isTable firstEight (G .table)) _ (and-l (goodFront firstEight G) _ (s .form))))) e
+      (and-r (readable (G .numbers)) _ (and-r (isTable firstEight (G .table)) _ (and-l (goodFront firstEight G) _ (s .form)))))) e
 
   other-rooms : hasRoom 4096 (G .columns)
       && (leb 4096 (length (G .ours)) && (leb 4096 (length (G .theirs)) && (leb 64 (length (G .hash)) && leb 295008 (length (G .out))))) ≡ true

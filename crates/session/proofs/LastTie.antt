@@ -1,36 +1,41 @@
 -- The turn of IBF LAST is the session's step of it. Assumes nothing.
 use mathlib.Core.Path.{_≡_, refl, sym, ap, ap₂, _∙_}
-use mathlib.Core.Bool.{Bool, true, false, not, _&&_, cond}
-use mathlib.Core.List.{List, [], _++_}
+use mathlib.Core.Bool.{Bool, true, false, not, _&&_, _||_, cond, Bool·not-not}
+use mathlib.Core.List.{List, [], _∷_, _++_}
 use Prim.Native.Nat.{ℕ, suc, _+_, _≤_}
 use native.Mathlib.Numerals.{add-one}
 use native.Mathlib.Omega.{arith}
-use lib.Dec.{ltb, leb}
+use lib.Dec.{eqb, ltb, leb}
 use lib.ListN.{length, length-append, length-map}
 use lib.Seq.{length-take-le}
 use Rattle.bucket.specs.Bucket.{𝟎}
 use Rattle.bucket.specs.Lists.{over}
+use Rattle.filter.specs.declared.answers.Refusal.{Refusal}
+use Rattle.filter.specs.declared.answers.Refusal.the-variants.{None, Malformed, OutOfTurn, FalseReading, Swaps, Limit}
+use Rattle.filter.specs.Answers.{refusalNumber, firstOf}
 use Rattle.filter.specs.Calls.{Read, filled, listedInto}
 use Rattle.filter.specs.Table.{firstEight}
 use Rattle.message.specs.Laying.{laid}
 use Rattle.message.specs.Layout.{Content, slice, Slice}
 use Rattle.message.specs.Writing.{layouts}
-use Rattle.session.specs.Sets.{count}
-use Rattle.session.specs.Grid.{PASSIVE, isLast}
-use Rattle.session.specs.Session.{Session, noLedger, Outcome, nextSalt, nextSize, ownFilter, acts, clears, isComplete, isFalse, oursIn, theirsIn, idsOf, readingAt, tooMany, refused, act, onSlice, decoded, swapped, cleared}
-use Rattle.session.specs.Calls.{Given, Left, left, numbered, answered, inState, tableOf, sessionOf, ended, went, stepOn}
-use Rattle.session.specs.Turns.{aborted, admitsSlice, isPlaced, fateOf, openTurn, swappedNumbers, LastTurn, lastTurn′, untouched, wiped, kept, readTurn, lastTurn}
-use Rattle.session.proofs.ListLaws.{distinct-append, count-distinct}
-use Rattle.session.proofs.BookLaws.{Table, table-ids}
-use Rattle.session.proofs.GridLaws.{slice-kind, slice-idle}
-use Rattle.session.proofs.FaultLaws.{ranges}
-use Rattle.session.proofs.Theorems.{refusal-cleared}
-use Rattle.session.proofs.ReadingLaws.{ReadLaw, read-law, complete-clean}
+use Rattle.filter.specs.Sets.{count}
+use Rattle.ledger.specs.Grid.{PASSIVE, isLast}
+use Rattle.ledger.specs.Session.{Session, noLedger, Outcome, nextSalt, nextSize, ownFilter, acts, clears, isComplete, isFalse, oursIn, theirsIn, idsOf, readingAt, tooMany, refused, bySlice, act, onSlice, decoded, swapped, cleared}
+use Rattle.ledger.specs.Calls.{Given, Left, left, numbered, answered, inState, tableOf, sessionOf, ended, went, stepOn}
+use Rattle.form.specs.Answers.{aborted, admitsSlice, isPlaced}
+use Rattle.session.specs.Turns.{fateOf, openTurn, swappedNumbers, LastTurn, lastTurn′, untouched, wiped, kept, readTurn, lastTurn}
+use Rattle.filter.proofs.ListLaws.{distinct-append, count-distinct}
+use Rattle.ledger.proofs.BookLaws.{Table, table-ids}
+use Rattle.ledger.proofs.GridLaws.{slice-kind, slice-idle}
+use Rattle.ledger.proofs.FaultLaws.{ranges}
+use Rattle.ledger.proofs.CallLaws.{leb-not-ltb, step-acts, step-ends}
+use Rattle.ledger.proofs.Theorems.{refusal-cleared}
+use Rattle.ledger.proofs.ReadingLaws.{ReadLaw, read-law, complete-clean}
 use Rattle.session.proofs.OpensLaws.{Listing, listing}
-use Rattle.session.proofs.GivenLaws.{given-good, given-form}
-use Rattle.session.proofs.Sound.{Sound}
-use Rattle.session.proofs.TurnLaws.{sessionIn, refusalIn, actIn}
-use Rattle.session.proofs.SliceSteps.{step-by, halts, stops, admits-is, readFault, slice-refusal, went-same, numbers-same}
+use Rattle.ledger.proofs.GivenLaws.{given-good, given-form}
+use Rattle.ledger.proofs.Sound.{Sound}
+use Rattle.session.proofs.TurnLaws.{sessionIn, refusalIn, actIn, stops, halted-tie}
+use Rattle.session.proofs.SliceSteps.{admits-is, readFault, slice-refusal, went-same, numbers-same}
 use Rattle.session.proofs.OpenTie.{open-tie}
 
 -- ---- the fate of a reading
@@ -53,15 +58,27 @@ module _ (t : List ℕ) (table : Table firstEight t) (size swaps : ℕ) (r : Rea
       ∙ length-append (idsOf firstEight t) (theirsIn r)
       ∙ ap₂ _+_ (length-map t firstEight) theirs-count
 
-  fate-is : readFault true t swaps r ≡ fateOf (r .answer) (length t) swaps
+  fate-is : refusalNumber (readFault true t swaps r) ≡ fateOf (r .answer) (length t) swaps
   unfolding fateOf tooMany
   fate-is = go (isComplete r) refl
     where
+      refused-if : (b : Bool) (x y : Refusal) → refusalNumber (cond (not b) x y) ≡ cond b (refusalNumber y) (refusalNumber x)
+      refused-if true x y = refl
+      refused-if false x y = refl
+
+      falsely : Refusal
+      falsely = firstOf ((FalseReading, not (isFalse r)) ∷ [])
+
       go : (b : Bool) → isComplete r ≡ b
-          → cond (b && ltb 4096 (count (idsOf firstEight t ++ theirsIn r))) 10 (cond (not b && leb 16 swaps) 9 (cond (isFalse r) 6 0))
+          → refusalNumber (firstOf ((Limit, not (b && ltb 4096 (count (idsOf firstEight t ++ theirsIn r)))) ∷ (Swaps, b || ltb swaps 16) ∷ (FalseReading, not (isFalse r)) ∷ []))
           ≡ cond b (cond (ltb 4096 (length t + r .answer .theirs)) 10 0) (cond (leb 16 swaps) 9 (r .answer .refusal))
-      go true e = ap₂ (λ (m n : ℕ). cond (ltb 4096 m) 10 n) (held-count e) (k .lists .refuses ∙ k .clean e)
-      go false e = ap (λ (n : ℕ). cond (leb 16 swaps) 9 n) (k .lists .refuses)
+      go true e =
+          (λ i. refusalNumber (cond (not (ltb 4096 (held-count e i))) (firstOf ((FalseReading, not (eqb (k .clean e i) 6)) ∷ [])) Limit))
+          ∙ refused-if (ltb 4096 (length t + r .answer .theirs)) None Limit
+      go false e =
+          ap (λ (b : Bool). refusalNumber (cond b falsely Swaps)) (sym (Bool·not-not (ltb swaps 16)) ∙ ap not (sym (leb-not-ltb 16 swaps)))
+          ∙ refused-if (leb 16 swaps) falsely Swaps
+          ∙ ap (cond (leb 16 swaps) 9) (refused-if (isFalse r) None FalseReading ∙ k .lists .refuses)
 
 -- ---- what follows a reading
 
@@ -80,9 +97,7 @@ module _ (G : Given) (s : Sound G) (empty : sessionIn G .ledger ≡ noLedger) (c
   wipes-tie : (n : ℕ) → acts n ≡ false → clears n ≡ true → refusalIn G c ≡ n → leaves (wipes n) ≡ stepOn firstEight c G
   unfolding cleared
   wipes-tie n stays is e =
-      sym (step-by G c n e
-      ∙ ap (λ (b : Bool). cond b (went firstEight n (actIn G c) G)
-      (ended n (refused firstEight (tableOf G) n (sessionIn G) c) G)) stays
+      sym (step-ends firstEight c G n e stays
       ∙ ap (λ (u : Session). ended n u G) (zeroes n is)
       ∙ (λ i. left (answered n 0 0 (inState (stops G s i) (G .numbers))) (G .records) (G .marks) (G .inquired)
       (filled size (λ j. 𝟎) (r .columns)) (listedInto size [] (r .ours)) (listedInto size [] (r .theirs)) (G .out)))
@@ -99,7 +114,7 @@ module _ (G : Given) (s : Sound G) (empty : sessionIn G .ledger ≡ noLedger) (c
       (omega (arith, small, k .lists .theirs-few, theirs-count (tableOf G) (given-good G s) size (G .numbers .swaps) r k)) size salt
       ∙ ap (λ (o : Outcome). went firstEight 0 o G)
       (sym (acted ∙ ap (λ (x : Bool). cond x (decoded firstEight (tableOf G) (sessionIn G) r size salt) (swapped firstEight (tableOf G) (sessionIn G) r size salt)) b))
-      ∙ sym (step-by G c 0 e)
+      ∙ sym (step-acts firstEight c G 0 e refl)
 
   -- stuck or false
   abbrev swaps : ℕ → LastTurn
@@ -110,9 +125,7 @@ module _ (G : Given) (s : Sound G) (empty : sessionIn G .ledger ≡ noLedger) (c
   swaps-tie : (n : ℕ) → acts n ≡ true → isComplete r ≡ false → refusalIn G c ≡ n → leaves (swaps n) ≡ stepOn firstEight c G
   unfolding swapped sessionOf idsOf Rattle.filter.specs.Table.idsOf
   swaps-tie n does b e =
-      sym (step-by G c n e
-      ∙ ap (λ (x : Bool). cond x (went firstEight n (actIn G c) G)
-      (ended n (refused firstEight (tableOf G) n (sessionIn G) c) G)) does
+      sym (step-acts firstEight c G n e does
       ∙ ap (λ (o : Outcome). went firstEight n o G)
       (acted ∙ ap (λ (x : Bool). cond x (decoded firstEight (tableOf G) (sessionIn G) r size salt) (swapped firstEight (tableOf G) (sessionIn G) r size salt)) b)
       ∙ went-same G s u refl refl n cs
@@ -135,7 +148,7 @@ module _ (G : Given) (s : Sound G) (empty : sessionIn G .ledger ≡ noLedger) (c
   abbrev turnBy : Bool → ℕ → LastTurn
   turnBy b f = cond (clears f) (wipes f) (cond b opens (swaps f))
 
-  read-tie : refusalIn G c ≡ readFault true (tableOf G) (G .numbers .swaps) r
+  read-tie : refusalIn G c ≡ refusalNumber (readFault true (tableOf G) (G .numbers .swaps) r)
       → leaves (readTurn (G .numbers) (G .table) size salt r (G .marks) (G .inquired) (G .out)) ≡ stepOn firstEight c G
   unfolding readTurn fateOf
   read-tie e =
@@ -179,7 +192,7 @@ module _ (G : Given) (s : Sound G) (size offset salt width : ℕ) (ids hashes co
 
   acted : actIn G c
       ≡ cond (isComplete read) (decoded firstEight (tableOf G) (sessionIn G) read size salt) (swapped firstEight (tableOf G) (sessionIn G) read size salt)
-  unfolding act onSlice sessionOf
+  unfolding act bySlice onSlice sessionOf
   acted = rw e
 
   zeroes : (n : ℕ) → clears n ≡ true → refused firstEight (tableOf G) n (sessionIn G) c ≡ cleared firstEight (tableOf G) (sessionIn G) read size
@@ -193,12 +206,12 @@ module _ (G : Given) (s : Sound G) (size offset salt width : ℕ) (ids hashes co
       go (admitsSlice (G .numbers) 1) refl (isPlaced (G .numbers) size offset salt width) (slice-refusal G size offset salt width ids hashes counts true e)
     where
       go : (a : Bool) → admitsSlice (G .numbers) 1 ≡ a → (p : Bool)
-          → refusalIn G c ≡ cond a (cond p (readFault true (tableOf G) (G .numbers .swaps) read) 4) 5
+          → refusalIn G c ≡ refusalNumber (cond a (cond p (readFault true (tableOf G) (G .numbers .swaps) read) Malformed) OutOfTurn)
           → let x = cond a
           (cond p (readTurn (G .numbers) (G .table) size salt read (G .marks) (G .inquired) (G .out))
           (lastTurn′ (aborted 4 (G .numbers)) (G .marks) (G .inquired) (untouched (G .columns) (G .ours) (G .theirs)) (G .out)))
           (lastTurn′ (aborted 5 (G .numbers)) (G .marks) (G .inquired) (untouched (G .columns) (G .ours) (G .theirs)) (G .out)) in
           left (x .answer) (G .records) (x .marks) (x .inquired) (x .read .columns) (x .read .ours) (x .read .theirs) (x .out) ≡ stepOn firstEight c G
       go true q true f = read-tie G s (idles q) c size salt (ranges size offset salt width (good .ranges) .high) read reads acted zeroes f
-      go true q false f = halts G s c 4 refl refl f
-      go false q p f = halts G s c 5 refl refl f
+      go true q false f = halted-tie G s c 4 refl refl f
+      go false q p f = halted-tie G s c 5 refl refl f

@@ -20,9 +20,10 @@ use Rattle.message.specs.Layout.{Content, IBF, IBF-LAST}
 use Rattle.message.specs.Reading.{content, parse}
 use Rattle.message.specs.Walking.{exactlyOne}
 use Rattle.message.proofs.ShapeLaws.{Sliced, shape}
-use Rattle.session.specs.declared.numbers.Numbers.{Numbers}
-use Rattle.session.specs.Calls.{answered}
-use Rattle.session.specs.Turns.{aborted, admitsSlice, isPlaced, slicedNumbers, sliceTurn, sliceTurn′}
+use Rattle.ledger.specs.declared.numbers.Numbers.{Numbers}
+use Rattle.ledger.specs.Calls.{answered}
+use Rattle.form.specs.Answers.{aborted, admitsSlice, isPlaced, slicedNumbers}
+use Rattle.session.specs.Turns.{sliceTurn, sliceTurn′}
 use Rattle.session.specs.Ready.{Lays}
 
 -- ---- laying

@@ -14,13 +14,14 @@ use Rattle.message.specs.declared.kinds.Message.{Message}
 use Rattle.message.specs.declared.kinds.Message.the-variants.{Ibf, IbfLast, Inquiry, Offer, Demand, Element, Done, Malformed}
 use Rattle.message.specs.Walking.{exactlyOne}
 use Rattle.message.proofs.kinds.Message.{the-type}
-use Rattle.session.specs.declared.numbers.Answer.{Answer}
-use Rattle.session.specs.declared.numbers.Numbers.{Numbers}
-use Rattle.session.specs.declared.tallying.Tally.{Tally}
+use Rattle.ledger.specs.declared.numbers.Answer.{Answer}
+use Rattle.ledger.specs.declared.numbers.Numbers.{Numbers}
+use Rattle.form.specs.declared.tallying.Tally.{Tally}
 use Rattle.session.specs.Judged.{InForm, LedgerTurn, ledgerTurn, ledgerTurn′}
 use Rattle.session.specs.Moves.{stored}
 use Rattle.session.specs.Ready.{Kept}
-use Rattle.session.specs.Turns.{aborted, MarkTurn, markTurn, inquiryTurn, demandTurn, elementTurn, EndTurn, endTurn, doneTurn, OfferTurn, offerTurn, offerTurn′}
+use Rattle.form.specs.Answers.{aborted}
+use Rattle.session.specs.Turns.{MarkTurn, markTurn, inquiryTurn, demandTurn, elementTurn, EndTurn, endTurn, doneTurn, OfferTurn, offerTurn, offerTurn′}
 use Rattle.session.proofs.SaidLaws.{inquiry-room, offer-room, offer-few, demand-room, demand-few, done-room}
 
 module _ (N : Numbers) (table R M I hash bs out : List ℕ) (m : Message) (T : Tally) where

@@ -13,16 +13,16 @@ use Rattle.message.specs.Laying.{isSlice}
 use Rattle.message.specs.Reading.{content}
 use Rattle.message.specs.Walking.{exactlyOne}
 use Rattle.message.proofs.WholeLaws.{part-below}
-use Rattle.session.specs.Calls.{Given, Left, left, hashGiven, stepOn, stepSaid}
+use Rattle.ledger.specs.Calls.{Given, Left, left, hashGiven, stepOn, stepSaid}
 use Rattle.session.specs.Judged.{LedgerTurn, ledgerTurn}
-use Rattle.session.proofs.Sound.{Sound}
+use Rattle.ledger.proofs.Sound.{Sound}
 use Rattle.session.proofs.SaidLaws.{items-short, inquiry-said, offer-said, demand-said, done-long, done-said}
 use Rattle.session.proofs.InquiryTie.{inquiry-tie}
 use Rattle.session.proofs.DemandTie.{demand-tie}
 use Rattle.session.proofs.OfferTie.{offer-tie}
 use Rattle.session.proofs.ElementTie.{element-tie}
 use Rattle.session.proofs.DoneTie.{done-tie}
-use Rattle.session.proofs.TallyLaws.{tallyGiven, tally-concerned, tally-unmet, tally-last, tally-came}
+use Rattle.form.proofs.TallyLaws.{tallyGiven, tally-concerned, tally-unmet, tally-last, tally-came}
 
 -- what a turn leaves
 abbrev pub ledgerLeft : Given → LedgerTurn → Left

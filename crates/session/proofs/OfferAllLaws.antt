@@ -14,8 +14,8 @@ use Rattle.filter.specs.Table.{firstEight, hashesOf, idsOf, isTable, position}
 use Rattle.filter.proofs.TableLaws.{ids-length, hash-at, held-id}
 use Rattle.session.specs.Turns.{markAll, hashesAt}
 use Rattle.session.specs.Ready.{Opens}
-use Rattle.session.proofs.SetLaws.{_∈_}
-use Rattle.session.proofs.ListLaws.{within-of}
+use Rattle.filter.proofs.SetLaws.{_∈_}
+use Rattle.filter.proofs.ListLaws.{within-of}
 use Rattle.session.proofs.PlaceLaws.{holds-within, bytes-back}
 use Rattle.session.proofs.AskLaws.{Gathering, gathering-start, gathering-next}
 

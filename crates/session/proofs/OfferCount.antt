@@ -1,25 +1,25 @@
 -- How many IDs are held or wanted after an OFFER: those before it, and the new ones that were not inquired. Assumes nothing.
-use mathlib.Core.Path.{_≡_, refl, sym, ap, _∙_}
+use mathlib.Core.Path.{_≡_, refl, sym, ap, ap₂, _∙_}
 use mathlib.Core.Logic.{_⊎_, inl, inr}
 use mathlib.Core.Bool.{Bool, true, false, not, _||_}
 use mathlib.Core.List.{List, _++_}
 use Prim.Native.Nat.{ℕ, _+_, _≤_}
 use native.Mathlib.Omega.{arith}
-use lib.Dec.{ltb}
+use lib.Dec.{ltb, leb}
 use lib.ListN.{length, length-map}
-use borrow.Author.Tests.{ltb-false, le-ltb}
+use borrow.Author.Tests.{leb-true, leb-false, lt-ltb, le-ltb}
 use Rattle.bucket.specs.Lists.{elem, Distinct}
 use Rattle.filter.specs.Table.{holds}
 use Rattle.filter.proofs.OrderLaws.{same-test}
 use Rattle.filter.proofs.SelectLaws.{mem-elem, select-agree}
-use Rattle.session.specs.Sets.{once, count}
-use Rattle.session.specs.Session.{Ledger, unmet, idsOf, held, heldIds, concerned}
+use Rattle.filter.specs.Sets.{once, count}
+use Rattle.ledger.specs.Session.{Ledger, unmet, idsOf, held, heldIds, concerned}
 use Rattle.session.specs.Moves.{extra}
-use Rattle.session.proofs.SetLaws.{_∈_, of-asc, asc-distinct, in-append-l, in-append-r, append-in}
-use Rattle.session.proofs.ListLaws.{Apart, once-apart, once-distinct, distinct-map, count-le}
-use Rattle.session.proofs.BookLaws.{Books}
-use Rattle.session.proofs.HeldLaws.{ids-part, unmet-in, Concerned, in-concerned, concerned-in}
-use Rattle.session.proofs.CountLaws.{count-append, count-apart, elem-concerned}
+use Rattle.filter.proofs.SetLaws.{_∈_, of-asc, asc-distinct, in-append-l, in-append-r, append-in}
+use Rattle.filter.proofs.ListLaws.{Apart, once-apart, once-distinct, distinct-map, count-le}
+use Rattle.ledger.proofs.BookLaws.{Books}
+use Rattle.ledger.proofs.HeldLaws.{ids-part, unmet-in, Concerned, in-concerned, concerned-in}
+use Rattle.form.proofs.CountLaws.{count-append, count-apart, elem-concerned}
 
 module _ (derive : ℕ → ℕ) (t : List ℕ) (L : Ledger) (b : Books derive t L) (rest : List ℕ) (one : once (idsOf derive (held derive t L ++ L .demanded)) (idsOf derive rest) ≡ true) where
   -- the IDs of new hashes are no others', and none is there twice
@@ -80,19 +80,22 @@ module _ (derive : ℕ → ℕ) (t : List ℕ) (L : Ledger) (b : Books derive t 
           ∙ in-append-r x (idsOf derive t) (L .inquired ++ idsOf derive (L .demanded)) (in-append-r x (L .inquired) (idsOf derive (L .demanded)) k))
       go x (inr k) = in-append-r x (concerned derive t L) (idsOf derive rest) k
 
+  -- and all have their room
+  pub new-room : leb (count (concerned derive t L ++ idsOf derive rest)) 4096 ≡ true → length (L .demanded) + length rest ≤ 4096
+  new-room e = omega (arith, demanded-count, leb-true (count (concerned derive t L ++ idsOf derive rest)) 4096 e)
+
   -- so one test of how many is enough
   pub new-full : ltb 4096 (count (concerned derive t L) + extra derive (L .inquired) rest) || ltb 4096 (length (L .demanded) + length rest)
-      ≡ ltb 4096 (count (concerned derive t L ++ idsOf derive rest))
+      ≡ not (leb (count (concerned derive t L ++ idsOf derive rest)) 4096)
   new-full =
       ap (λ (c : ℕ). ltb 4096 c || ltb 4096 (length (L .demanded) + length rest)) (sym new-count)
-      ∙ go (ltb 4096 (count (concerned derive t L ++ idsOf derive rest))) refl
+      ∙ go (leb (count (concerned derive t L ++ idsOf derive rest)) 4096) refl
     where
-      go : (a : Bool) → ltb 4096 (count (concerned derive t L ++ idsOf derive rest)) ≡ a → a || ltb 4096 (length (L .demanded) + length rest) ≡ a
-      go true e = refl
+      go : (a : Bool) → leb (count (concerned derive t L ++ idsOf derive rest)) 4096 ≡ a
+          → ltb 4096 (count (concerned derive t L ++ idsOf derive rest)) || ltb 4096 (length (L .demanded) + length rest) ≡ not a
+      go true e =
+          ap₂ _||_ (le-ltb 4096 (count (concerned derive t L ++ idsOf derive rest)) (leb-true (count (concerned derive t L ++ idsOf derive rest)) 4096 e))
+          (le-ltb 4096 (length (L .demanded) + length rest) (new-room e))
       go false e =
-          le-ltb 4096 (length (L .demanded) + length rest)
-          (omega (arith, demanded-count, ltb-false 4096 (count (concerned derive t L ++ idsOf derive rest)) e))
-
-  -- and all have their room
-  pub new-room : ltb 4096 (count (concerned derive t L ++ idsOf derive rest)) ≡ false → length (L .demanded) + length rest ≤ 4096
-  new-room e = omega (arith, demanded-count, ltb-false 4096 (count (concerned derive t L ++ idsOf derive rest)) e)
+          ap (λ (b : Bool). b || ltb 4096 (length (L .demanded) + length rest))
+          (lt-ltb 4096 (count (concerned derive t L ++ idsOf derive rest)) (leb-false (count (concerned derive t L ++ idsOf derive rest)) 4096 e))

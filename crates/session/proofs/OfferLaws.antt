@@ -11,18 +11,19 @@ use Rattle.bucket.specs.Digits.{joined, groups, packed}
 use Rattle.bucket.specs.Lists.{part, over, elem}
 use Rattle.bucket.proofs.ListLaws.{elem-at, elem-last, elem-cases, elem-nil}
 use Rattle.filter.specs.Table.{hashesOf, firstEight, idsOf, position, holds}
-use Rattle.filter.proofs.TableLaws.{ids-length, hash-at}
+use Rattle.filter.proofs.TableLaws.{ids-length, hash-at, first-eight-part}
 use Rattle.filter.proofs.OrderLaws.{same-test, ascending-distinct, map-at}
 use Rattle.filter.proofs.BisectLaws.{held}
+use Rattle.ledger.proofs.BelowLaws.{hashes-written}
 use Rattle.session.specs.declared.offering.Item.{Item}
 use Rattle.session.specs.declared.offering.Item.the-variants.{Known, New, Bad}
 use Rattle.session.specs.Moves.{placeOf, hashAtPlace, itemIn, hashInto, News, newsOf, isGood, newOne, newAll}
-use Rattle.session.specs.Sets.{insert}
+use Rattle.filter.specs.Sets.{insert}
 use Rattle.session.specs.Ready.{Offered}
-use Rattle.session.proofs.PutInLaws.{id-bytes, hashes-written, insert-length}
+use Rattle.ledger.proofs.PointLaws.{insert-length}
 use Rattle.session.proofs.PlaceLaws.{holds-within, place-here}
-use Rattle.session.proofs.SetLaws.{_∈_, clash, not-in-nil, elem-insert}
-use Rattle.session.proofs.ListLaws.{in-map, map-in, map-distinct}
+use Rattle.filter.proofs.SetLaws.{_∈_, clash, not-in-nil, elem-insert}
+use Rattle.filter.proofs.ListLaws.{in-map, map-in, map-distinct}
 use Rattle.session.proofs.StoreLaws.{Fresh, fresh-first, fresh-next, known-ids, hash-inserted}
 use Rattle.session.proofs.AskLaws.{Going, going-start, going-next, going-stops, going-end, Gathering, gathering-start, gathering-next}
 
@@ -45,7 +46,7 @@ module _ (table known fresh I : List ℕ) (active : Bool) (at : ℕ) (s : List �
       judged (ltb q 8192) (eqb (hashAtPlace (hashesOf table) (hashesOf known) q) (joined 8 (part at 64 s)))
       (holds (map firstEight (hashesOf fresh)) x) (eqb (getD (hashesOf fresh) (position (map firstEight (hashesOf fresh)) x) 0) (joined 8 (part at 64 s)))
       (active && not (holds I x)))
-      (read ∙ sym (id-bytes at s room)) (place-here table known at s room read is))
+      (read ∙ sym (first-eight-part at s room)) (place-here table known at s room read is))
 
 -- a search that found
 module _ (t : List ℕ) (x : ℕ) {q : ℕ} (is : q ≡ position (idsOf firstEight t) x) (there : holds (idsOf firstEight t) x ≡ true) where

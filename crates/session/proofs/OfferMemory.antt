@@ -11,21 +11,20 @@ use Rattle.bucket.specs.Lists.{over}
 use Rattle.bucket.proofs.OverLaws.{over-length, over-drop}
 use Rattle.filter.specs.Table.{firstEight}
 use Rattle.message.proofs.WholeLaws.{whole-length, one-back}
-use Rattle.session.specs.declared.numbers.Numbers.{Numbers}
-use Rattle.session.specs.Sets.{_∪_, once}
-use Rattle.session.specs.Session.{Ledger, Session, demanding, turn, idsOf, held, heldIds}
-use Rattle.session.specs.Memory.{markOf, flagOf, marksOf, flagsOf}
-use Rattle.session.specs.Calls.{Given, numbersOf, tableOf, sessionOf}
+use Rattle.filter.specs.Sets.{_∪_, once}
+use Rattle.ledger.specs.Session.{Ledger, Session, demanding, idsOf, held, heldIds}
+use Rattle.ledger.specs.Memory.{markOf, flagOf, marksOf, flagsOf}
+use Rattle.ledger.specs.Calls.{Given, tableOf, sessionOf}
+use Rattle.ledger.proofs.BelowLaws.{Fit}
 use Rattle.session.specs.Moves.{Stored, stored, storeAll}
-use Rattle.session.specs.Turns.{withDemanded}
-use Rattle.session.proofs.SetLaws.{_∈_, not-in}
-use Rattle.session.proofs.ListLaws.{Apart}
-use Rattle.session.proofs.HeldLaws.{in-ids}
-use Rattle.session.proofs.ActLaws.{no-flag}
-use Rattle.session.proofs.PutInLaws.{over-same, Hashes}
+use Rattle.filter.proofs.SetLaws.{_∈_, not-in}
+use Rattle.filter.proofs.ListLaws.{Apart}
+use Rattle.ledger.proofs.HeldLaws.{in-ids}
+use Rattle.ledger.proofs.ActLaws.{no-flag}
+use Rattle.ledger.proofs.LaidLaws.{over-same}
 use Rattle.session.proofs.StoreLaws.{Storing, stored-all, stored-count}
-use Rattle.session.proofs.Sound.{Sound}
-use Rattle.session.proofs.GivenLaws.{given-known, given-books, given-few, given-rooms, given-demanded, given-far, given-marks, given-flags, same-numbers}
+use Rattle.ledger.proofs.Sound.{Sound}
+use Rattle.ledger.proofs.GivenLaws.{given-known, given-books, given-few, given-rooms, given-demanded, given-far, given-marks, given-flags}
 use Rattle.session.proofs.OfferCount.{new-distinct, new-not-held, new-not-demanded}
 
 -- what lies behind is as it was
@@ -53,7 +52,7 @@ module _ (G : Given) (s : Sound G) where
   abbrev n : ℕ
   n = G .numbers .demanded
 
-  module _ (rest : List ℕ) (short : Hashes rest) (one : once (idsOf firstEight (held firstEight t L ++ L .demanded)) (idsOf firstEight rest) ≡ true) (few : n + length rest ≤ 4096) where
+  module _ (rest : List ℕ) (short : Fit 512 rest) (one : once (idsOf firstEight (held firstEight t L ++ L .demanded)) (idsOf firstEight rest) ≡ true) (few : n + length rest ≤ 4096) where
     storing : Storing n (G .records) (G .marks) rest
     unfolding idsOf
     storing = record {
@@ -116,17 +115,3 @@ module _ (G : Given) (s : Sound G) where
     offer-marks =
         ap (λ (m : Stored). m .marks) stored-now
         ∙ ap (over 4096 (flagsOf firstEight t (demanding rest L))) (sym marks-kept)
-
-    pub offer-numbers : withDemanded (G .numbers) (n + length rest) ≡ numbersOf (turn (S .state) (demanding rest L) S)
-    unfolding numbersOf sessionOf
-    offer-numbers = λ i. record {
-      state = G .numbers .state;
-      first = 0;
-      size = G .numbers .size;
-      salt = G .numbers .salt;
-      width = G .numbers .width;
-      swaps = G .numbers .swaps;
-      done = sym (ap (λ (m : Numbers). m .done) (same-numbers G s)) i;
-      demanded = sym demanded-long i;
-      inquired = sym (ap (λ (m : Numbers). m .inquired) (same-numbers G s)) i;
-    }

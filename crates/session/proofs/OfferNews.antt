@@ -1,8 +1,8 @@
--- The new hashes of an OFFER, gathered one after the other up to the first that is bad: all of them exactly if the OFFER is not strange.
+-- The new hashes of an OFFER, gathered one after the other up to the first that is bad: all of them exactly if the OFFER is allowed.
 -- Assumes nothing.
 use mathlib.Core.Path.{_≡_, refl, sym, ap, subst, _∙_}
 use mathlib.Core.Logic.{_⊎_, inl, inr}
-use mathlib.Core.Bool.{Bool, true, false, not, _&&_, _||_, cond, false≢true}
+use mathlib.Core.Bool.{Bool, true, false, not, _&&_, cond, false≢true, Bool·not-not}
 use mathlib.Core.List.{List, [], _∷_, _++_, map, map-append, append-assoc, append-nil}
 use Prim.Native.Nat.{ℕ, _≤_}
 use lib.Dec.{eqb}
@@ -12,15 +12,15 @@ use Rattle.bucket.proofs.ListLaws.{elem-head, elem-tail}
 use Rattle.bucket.proofs.TestLaws.{and-fails}
 use Rattle.filter.specs.Lists.{ascending}
 use Rattle.filter.specs.Table.{holds}
-use Rattle.session.specs.Sets.{all, once, news}
-use Rattle.session.specs.Grid.{ACTIVE}
-use Rattle.session.specs.Session.{Ledger, Session, «in», idsOf, held, new, strange}
+use Rattle.filter.specs.Sets.{all, once, news, implies}
+use Rattle.ledger.specs.Grid.{ACTIVE}
+use Rattle.ledger.specs.Session.{Ledger, Session, «in», idsOf, held, new, allowed}
 use Rattle.session.specs.Moves.{goAll, News, newsOf, isGood, newOne, newAll, hashAtPlace, placeOf}
-use Rattle.session.proofs.SetLaws.{_∈_, _⊆_, clash, of-asc, not-in, not-in-nil, in-cons, in-append-l, in-append-r, append-in}
-use Rattle.session.proofs.ListLaws.{Apart, all-of, in-map, map-in}
-use Rattle.session.proofs.BookLaws.{Books}
-use Rattle.session.proofs.HeldLaws.{table-held}
-use Rattle.session.proofs.MemoryLaws.{held-known}
+use Rattle.filter.proofs.SetLaws.{_∈_, _⊆_, clash, of-asc, not-in, not-in-nil, in-cons, in-append-l, in-append-r, append-in}
+use Rattle.filter.proofs.ListLaws.{Apart, all-of, in-map, map-in}
+use Rattle.ledger.proofs.BookLaws.{Books}
+use Rattle.ledger.proofs.HeldLaws.{table-held}
+use Rattle.ledger.proofs.MemoryLaws.{held-known}
 use Rattle.session.proofs.OfferPlaces.{place-known, place-same}
 
 -- ---- the walk by members: S are the hashes known, and no new ID may be wrong
@@ -248,20 +248,10 @@ module _ (derive : ℕ → ℕ) (t K I : List ℕ) (active : Bool) (ascT : ascen
 
 -- ---- and by the session's tests
 
-twice : (b : Bool) → not (not b) ≡ b
-twice true = refl
-twice false = refl
-
-neither : (a b : Bool) → not a && b ≡ not (a || not b)
-neither true b = refl
-neither false true = refl
-neither false false = refl
-
 all-asked : (derive : ℕ → ℕ) (I : List ℕ) → ascending I ≡ true → (active : Bool) (l : List ℕ)
-    → all (λ h. not (active && not (holds I (derive h)))) l ≡ not (active && not (all (λ h. elem (derive h) I) l))
+    → all (λ h. not (active && not (holds I (derive h)))) l ≡ implies active (all (λ h. elem (derive h) I) l)
 all-asked derive I asc false l = all-of (λ h. true) l (λ x e. refl)
-all-asked derive I asc true l =
-    (λ i. all (λ h. (twice (holds I (derive h)) ∙ Rattle.filter.proofs.BisectLaws.held I (derive h) asc) i) l) ∙ sym (twice (all (λ h. elem (derive h) I) l))
+all-asked derive I asc true l = λ i. all (λ h. (Bool·not-not (holds I (derive h)) ∙ Rattle.filter.proofs.BisectLaws.held I (derive h) asc) i) l
 
 module _ (derive : ℕ → ℕ) (t : List ℕ) (s : Session) (b : Books derive t (s .ledger)) (ascT : ascending (map derive t) ≡ true) (ascK : ascending (map derive (s .ledger .demanded)) ≡ true) (fewT : length t ≤ 4096) (fewK : length (s .ledger .demanded) ≤ 4096) (hs : List ℕ) where
   abbrev L : Ledger
@@ -288,12 +278,11 @@ module _ (derive : ℕ → ℕ) (t : List ℕ) (s : Session) (b : Books derive t
       go (inl k) = in-append-l x (held derive t L) (L .demanded) (table-held derive t L x k)
       go (inr k) = in-append-r x (held derive t L) (L .demanded) k
 
-  pub new-fine : newAll derive t (L .demanded) (L .inquired) («in» s ACTIVE) hs .fine ≡ not (strange derive t s (new derive t L hs))
-  unfolding strange new idsOf
+  pub new-fine : newAll derive t (L .demanded) (L .inquired) («in» s ACTIVE) hs .fine ≡ allowed derive t s (new derive t L hs)
+  unfolding allowed new idsOf
   new-fine =
       walk-fine derive t (L .demanded) (L .inquired) («in» s ACTIVE) ascT ascK fewT fewK (b .noShared) met hs met-back met-forth
       ∙ ap (λ (c : Bool). c && once (map derive met) (map derive (news met hs))) (all-asked derive (L .inquired) (of-asc (L .inquired) (b .inquiredAsc)) («in» s ACTIVE) (news met hs))
-      ∙ neither («in» s ACTIVE && not (all (λ h. elem (derive h) (L .inquired)) (news met hs))) (once (map derive met) (map derive (news met hs)))
 
   pub new-hashes : newAll derive t (L .demanded) (L .inquired) («in» s ACTIVE) hs .fine ≡ true
       → newAll derive t (L .demanded) (L .inquired) («in» s ACTIVE) hs .hashes ≡ new derive t L hs

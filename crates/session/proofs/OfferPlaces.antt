@@ -15,7 +15,7 @@ use Rattle.filter.specs.Table.{position, holds}
 use Rattle.filter.proofs.OrderLaws.{map-at, same-test}
 use Rattle.filter.proofs.BisectLaws.{held}
 use Rattle.session.specs.Moves.{placeOf, hashAtPlace}
-use Rattle.session.proofs.SetLaws.{_∈_, and-l, and-r, in-append-l, in-append-r}
+use Rattle.filter.proofs.SetLaws.{_∈_, and-l, and-r, in-append-l, in-append-r}
 
 -- what a search in the IDs of hashes finds
 module _ (derive : ℕ → ℕ) (l : List ℕ) (x : ℕ) (e : holds (map derive l) x ≡ true) where

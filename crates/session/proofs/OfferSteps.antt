@@ -10,15 +10,16 @@ use lib.ListN.{length, take}
 use Rattle.bucket.specs.Lists.{over}
 use Rattle.filter.specs.Table.{firstEight, hashesOf}
 use Rattle.message.specs.Writing.{layouts, demandsOf}
-use Rattle.session.specs.declared.numbers.Numbers.{Numbers}
-use Rattle.session.specs.declared.numbers.Answer.{Answer}
-use Rattle.session.specs.Grid.{ACTIVE, entry}
-use Rattle.session.specs.Calls.{answered}
+use Rattle.ledger.specs.declared.numbers.Numbers.{Numbers}
+use Rattle.ledger.specs.declared.numbers.Answer.{Answer}
+use Rattle.ledger.specs.Grid.{ACTIVE, entry}
+use Rattle.ledger.specs.Calls.{answered}
+use Rattle.ledger.proofs.BelowLaws.{Fit, hashes-written}
 use Rattle.session.specs.Moves.{News, newAll, extra, Stored, stored, storeAll}
 use Rattle.session.specs.Ready.{Offered}
-use Rattle.session.specs.Turns.{OfferTurn, aborted, withDemanded, offerTurn′, offerTurn}
-use Rattle.session.proofs.PutInLaws.{Hashes, hashes-written}
-use Rattle.session.proofs.ListRooms.{demands-room}
+use Rattle.form.specs.Answers.{aborted, withDemanded}
+use Rattle.session.specs.Turns.{OfferTurn, offerTurn′, offerTurn}
+use Rattle.ledger.proofs.RoomLaws.{demands-room}
 use Rattle.session.proofs.WalkedLaws.{new-short}
 
 -- ---- the walk
@@ -33,7 +34,7 @@ pub record Found (table known I : List ℕ) (active : Bool) (hs : List ℕ) (fin
   pub hashes : fine ≡ true → hashesOf (take (64 * count) bytes) ≡ news table known I active hs .hashes
   pub room : fine ≡ true → length (layouts (demandsOf (hashesOf (take (64 * count) bytes)))) ≤ 65476
 
-pub found : (table known I : List ℕ) (active : Bool) (hs : List ℕ) {bytes₀ bytes : List ℕ} {fine : Bool} {count : ℕ} → Hashes hs → length bytes₀ ≡ 65472 → count ≤ 1023
+pub found : (table known I : List ℕ) (active : Bool) (hs : List ℕ) {bytes₀ bytes : List ℕ} {fine : Bool} {count : ℕ} → Fit 512 hs → length bytes₀ ≡ 65472 → count ≤ 1023
     → Offered (news table known I active hs) fine count bytes bytes₀ → Found table known I active hs fine count bytes
 found table known I active hs {bytes₀} {bytes} {fine} {count} short large few walked = record {
   judged = sym (walked .fine-is);

@@ -18,26 +18,26 @@ use Rattle.filter.specs.Table.{firstEight, position}
 use Rattle.filter.proofs.TableLaws.{ids-ascending}
 use Rattle.message.specs.Layout.{Content, done}
 use Rattle.message.specs.Writing.{layouts, inquiriesOf, offersOf}
-use Rattle.session.specs.declared.numbers.Numbers.{Numbers}
-use Rattle.session.specs.Sets.{_∪_, isNil}
-use Rattle.session.specs.Grid.{ACTIVE}
-use Rattle.session.specs.Session.{Ledger, noLedger, oursIn, theirsIn, idsOf, hashOf, held, checksum, hashesFor, opened, decoded}
-use Rattle.session.specs.Memory.{bit, markOf, flagOf, marksOf, flagsOf}
-use Rattle.session.specs.Calls.{Given, left, numbered, answered, numbersOf, tableOf, sessionOf, went}
+use Rattle.ledger.specs.declared.numbers.Numbers.{Numbers}
+use Rattle.filter.specs.Sets.{_∪_, isNil}
+use Rattle.ledger.specs.Grid.{ACTIVE}
+use Rattle.ledger.specs.Session.{Ledger, noLedger, oursIn, theirsIn, idsOf, hashOf, held, checksum, hashesFor, opened, decoded}
+use Rattle.ledger.specs.Memory.{bit, markOf, flagOf, marksOf, flagsOf}
+use Rattle.ledger.specs.Calls.{Given, left, numbered, answered, numbersOf, tableOf, sessionOf, went}
 use Rattle.session.specs.Moves.{insertedAll}
-use Rattle.session.specs.Turns.{markAll, hashesAt, openedNumbers, openTurn}
-use Rattle.session.proofs.SetLaws.{_∈_, _⊆_, Asc, asc-of}
-use Rattle.session.proofs.ListLaws.{map-in}
-use Rattle.session.proofs.HeldLaws.{hash-of, hashes-in}
-use Rattle.session.proofs.PointLaws.{map-agree, position-within, position-at}
-use Rattle.session.proofs.OpenLaws.{offeredAt, position-ids, hashes-table, marks-opened}
-use Rattle.session.proofs.PutInLaws.{over-same}
+use Rattle.form.specs.Answers.{openedNumbers}
+use Rattle.session.specs.Turns.{markAll, hashesAt, openTurn}
+use Rattle.filter.proofs.SetLaws.{_∈_, _⊆_, Asc, asc-of}
+use Rattle.filter.proofs.ListLaws.{map-in}
+use Rattle.ledger.proofs.HeldLaws.{hash-of, hashes-in}
+use Rattle.ledger.proofs.PointLaws.{map-agree, position-within, position-at}
+use Rattle.ledger.proofs.OpenLaws.{offeredAt, position-ids, hashes-table, marks-opened}
+use Rattle.ledger.proofs.LaidLaws.{over-same}
 use Rattle.session.proofs.StoreLaws.{inserted-all, inserted-count}
-use Rattle.session.proofs.LaidLaws.{set-over}
-use Rattle.session.proofs.GivenLaws.{given-table, given-asc, given-books, given-few, given-rooms, given-marks, same-records, same-numbers}
-use Rattle.session.proofs.Sound.{Sound}
-use Rattle.session.proofs.TurnLaws.{sessionIn, ledgerIn}
-use Rattle.session.proofs.SliceSteps.{sent-only}
+use Rattle.ledger.proofs.LaidLaws.{set-over}
+use Rattle.ledger.proofs.GivenLaws.{given-table, given-asc, given-books, given-few, given-rooms, given-marks, same-records, same-numbers}
+use Rattle.ledger.proofs.Sound.{Sound}
+use Rattle.session.proofs.TurnLaws.{sessionIn, ledgerIn, sent-only}
 
 -- ---- marks
 

@@ -7,7 +7,7 @@ use native.Mathlib.Omega.{arith}
 use borrow.Author.Tests.{ltb-true, ltb-false, eq-eqb, ne-eqb}
 use lib.Bits.{bitXor, xor-zero-r}
 use lib.Dec.{eqb, ltb}
-use lib.ListN.{length, take, getD, length-append, length-map, List·getD-eq-default}
+use lib.ListN.{length, take, getD, length-append, length-map, length-take, List·getD-eq-default}
 use lib.Pow.{pow-pos}
 use Rattle.bucket.specs.Crc.{tabulated}
 use Rattle.bucket.specs.Digits.{joined, packed}
@@ -18,22 +18,20 @@ use Rattle.filter.specs.Lists.{distinct}
 use Rattle.filter.specs.Table.{firstEight, hashesOf, idsOf, isTable, position}
 use Rattle.message.specs.Layout.{Content, done}
 use Rattle.message.specs.Writing.{layouts, inquiriesOf, offersOf}
-use Rattle.session.specs.declared.numbers.Numbers.{Numbers}
-use Rattle.session.specs.declared.numbers.Answer.{Answer}
-use Rattle.session.specs.Memory.{marked}
-use Rattle.session.specs.Calls.{answered}
+use Rattle.ledger.specs.declared.numbers.Numbers.{Numbers}
+use Rattle.ledger.specs.declared.numbers.Answer.{Answer}
+use Rattle.ledger.specs.Memory.{marked}
+use Rattle.ledger.specs.Calls.{answered}
+use Rattle.ledger.proofs.BelowLaws.{Fit, hashes-written, hashes-fit}
 use Rattle.session.specs.Moves.{insertedAll, checkOf}
-use Rattle.session.specs.Turns.{markAll, hashesAt, openedNumbers, openTurn, openTurn′}
-use Rattle.session.proofs.SetLaws.{clash}
-use Rattle.session.proofs.PutInLaws.{Hashes, hashes-short, hashes-written}
+use Rattle.session.specs.Ready.{Sent}
+use Rattle.form.specs.Answers.{openedNumbers}
+use Rattle.session.specs.Turns.{markAll, hashesAt, openTurn, openTurn′}
+use Rattle.filter.proofs.SetLaws.{clash}
 use Rattle.session.proofs.CheckBytes.{check-short, bytes-sum, sum-number}
-use Rattle.session.proofs.RoomLaws.{layouts-append, inquiries-room, offers-room}
+use Rattle.ledger.proofs.RoomLaws.{layouts-append, inquiries-room, offers-room}
 
 -- ---- messages sent one after the other
-
-pub record Sent (cs : List Content) (out₀ out : List ℕ) (n : ℕ) : Type 0 where
-  pub count : n ≡ length (layouts cs)
-  pub bytes : out ≡ over 0 (layouts cs) out₀
 
 pub sent-first : (cs : List Content) {out₀ out : List ℕ} {n : ℕ} → n ≡ 0 + length (layouts cs) → out ≡ over 0 (layouts cs) out₀ → Sent cs out₀ out n
 sent-first cs e f = record { count = omega (arith, e); bytes = f }
@@ -47,7 +45,7 @@ sent-then {cs} ds {out₀} s room e f = record {
       ∙ ap (λ (l : List ℕ). over 0 l out₀) (sym (layouts-append cs ds));
 }
 
-pub listed-room : (salt : ℕ) (ids hs : List ℕ) → length ids ≤ 4096 → length hs ≤ 4096 → length (layouts (inquiriesOf salt ids ++ offersOf hs)) ≤ 294940
+listed-room : (salt : ℕ) (ids hs : List ℕ) → length ids ≤ 4096 → length hs ≤ 4096 → length (layouts (inquiriesOf salt ids ++ offersOf hs)) ≤ 294940
 listed-room salt ids hs h k =
     omega (
       arith,
@@ -57,16 +55,29 @@ listed-room salt ids hs h k =
       offers-room hs k,
     )
 
+-- ours and theirs are parts of lists
+part-few : (n : ℕ) (l : List ℕ) → n ≤ 4096 → length (take n l) ≤ 4096
+part-few n l h = omega (arith, h, length-take n l)
+
+pub offered-few : (table ours : List ℕ) (a : ℕ) → a ≤ 4096 → length (hashesAt (hashesOf table) (idsOf firstEight table) (take a ours)) ≤ 4096
+offered-few table ours a h =
+    rw (length-map (take a ours) (λ x. getD (hashesOf table) (position (idsOf firstEight table) x) 0)) (part-few a ours h)
+
+pub told-room : (salt : ℕ) (table ours theirs : List ℕ) (a b : ℕ) → a ≤ 4096 → b ≤ 4096
+    → length (layouts (inquiriesOf salt (take b theirs) ++ offersOf (hashesAt (hashesOf table) (idsOf firstEight table) (take a ours)))) ≤ 294940
+told-room salt table ours theirs a b h k =
+    listed-room salt (take b theirs) (hashesAt (hashesOf table) (idsOf firstEight table) (take a ours)) (part-few b theirs k) (offered-few table ours a h)
+
 -- ---- the hashes that are offered
 
-at-short : (t : List ℕ) → Hashes t → (i : ℕ) → getD t i 0 < 2 ^ 512
+at-short : (t : List ℕ) → Fit 512 t → (i : ℕ) → getD t i 0 < 2 ^ 512
 at-short t short i = go (ltb i (length t)) refl
   where
     go : (b : Bool) → ltb i (length t) ≡ b → getD t i 0 < 2 ^ 512
     go true e = short (getD t i 0) (elem-at t i (ltb-true i (length t) e))
     go false e = rw (List·getD-eq-default t 0 (ltb-false i (length t) e)) (pow-pos 512)
 
-hashes-at-short : (t ts : List ℕ) → Hashes t → (xs : List ℕ) → Hashes (hashesAt t ts xs)
+hashes-at-short : (t ts : List ℕ) → Fit 512 t → (xs : List ℕ) → Fit 512 (hashesAt t ts xs)
 hashes-at-short t ts short [] h e = absurd (clash e (elem-nil h))
 hashes-at-short t ts short (x ∷ xs) h e =
     elem-cases (λ (v : ℕ). v < 2 ^ 512) h (getD t (position ts x) 0) (hashesAt t ts xs) e (at-short t short (position ts x)) (hashes-at-short t ts short xs h)
@@ -79,7 +90,7 @@ gathered-back table ours a bytes₀ e room f =
     let hs = hashesAt (hashesOf table) (idsOf firstEight table) ours in
     let count : length hs ≡ length ours = length-map ours (λ x. getD (hashesOf table) (position (idsOf firstEight table) x) 0) in
     ap₂ (λ (n : ℕ) (l : List ℕ). hashesOf (take (64 * n) l)) (e ∙ sym count) f
-    ∙ hashes-written hs bytes₀ (hashes-at-short (hashesOf table) (idsOf firstEight table) (hashes-short table) ours) (omega (arith, count, e, room))
+    ∙ hashes-written hs bytes₀ (hashes-at-short (hashesOf table) (idsOf firstEight table) (hashes-fit table) ours) (omega (arith, count, e, room))
 
 -- ---- the checksum of the table alone
 

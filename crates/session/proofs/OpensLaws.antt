@@ -1,5 +1,5 @@
 -- What a reading in a session lists and answers: how many, where they stand, and that ours are the table's. Assumes nothing.
-use mathlib.Core.Path.{_≡_, refl, sym, subst}
+use mathlib.Core.Path.{_≡_, refl, sym}
 use mathlib.Core.Bool.{true, cond}
 use mathlib.Core.List.{List, reverse}
 use Prim.Native.Nat.{ℕ, _≤_}
@@ -18,11 +18,11 @@ use Rattle.filter.specs.Peeling.{Outcome, reading, verdict}
 use Rattle.filter.specs.Table.{firstEight, hashesOf, isTable}
 use Rattle.filter.proofs.PeelLaws.{listed-few}
 use Rattle.filter.proofs.SideLaws.{ours-few, theirs-few}
-use Rattle.session.specs.Sets.{within}
-use Rattle.session.specs.Session.{isComplete, oursIn, theirsIn, idsOf, readingAt}
+use Rattle.filter.specs.Sets.{within}
+use Rattle.ledger.specs.Session.{isComplete, oursIn, theirsIn, idsOf, readingAt}
 use Rattle.session.specs.Ready.{Opens}
-use Rattle.session.proofs.ListLaws.{of-within}
-use Rattle.session.proofs.ReadingLaws.{read-law, reading-granted}
+use Rattle.filter.proofs.ListLaws.{of-within}
+use Rattle.ledger.proofs.ReadingLaws.{read-law, reading-granted}
 
 -- what a reading of a filter with size places answers and lists
 pub record Listing (size : ℕ) (r : Read) : Type 0 where
@@ -92,12 +92,3 @@ module _ (size salt : ℕ) (table : List ℕ) (c : Columns) (o th : List ℕ) wh
   pub call-reads : readRefusal firstEight size salt table c o th ≡ None
       → readCall firstEight size salt table c o th ≡ readingAt firstEight (hashesOf table) size salt c o th
   call-reads e = sym (reading-granted firstEight size salt table c o th e)
-
-  pub call-listing : readRefusal firstEight size salt table c o th ≡ None → Listing size (readCall firstEight size salt table c o th)
-  call-listing e = subst (Listing size) (sym (call-reads e)) (listing firstEight (hashesOf table) size salt c o th)
-
-  pub call-held : readRefusal firstEight size salt table c o th ≡ None → isComplete (readCall firstEight size salt table c o th) ≡ true
-      → within (oursIn (readCall firstEight size salt table c o th)) (Rattle.filter.specs.Table.idsOf firstEight table) ≡ true
-  call-held e k =
-      subst (λ (r : Read). within (oursIn r) (Rattle.filter.specs.Table.idsOf firstEight table) ≡ true) (sym (call-reads e))
-      (ours-held (subst (λ (r : Read). isComplete r ≡ true) (call-reads e) k))

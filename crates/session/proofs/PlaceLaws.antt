@@ -1,25 +1,25 @@
 -- Places: where searches in the table and among the demanded hashes end, what stands at a place, and 64 bytes compared. Assumes nothing.
 use mathlib.Core.Path.{_≡_, refl, sym, ap, ap₂, _∙_}
-use mathlib.Core.Bool.{Bool, true, false, cond, and-eq-true-iff, true≢false}
+use mathlib.Core.Bool.{Bool, true, false, not, _&&_, _||_, cond, and-eq-true-iff, true≢false}
 use mathlib.Core.List.{List, [], _∷_, _++_, map}
 use Prim.Native.Nat.{ℕ, _+_, _-_, _*_, _≤_, _<_}
 use native.Mathlib.Omega.{arith}
-use lib.Dec.{eqb, ltb}
+use lib.Dec.{eqb, ltb, leb}
 use lib.ListN.{length, getD}
 use lib.Seq.{getD-take, getD-drop}
-use borrow.Author.Tests.{lt-ltb, le-ltb, ltb-true, ltb-false, eq-eqb, ne-eqb}
+use borrow.Author.Tests.{lt-ltb, le-ltb, ltb-true, ltb-false, le-leb, lt-leb, leb-true, leb-false, eq-eqb, ne-eqb}
 use Rattle.bucket.specs.Digits.{joined, groups, Below}
 use Rattle.bucket.specs.Lists.{part}
 use Rattle.bucket.proofs.DigitLaws.{groups-joined}
 use Rattle.bucket.proofs.OverLaws.{part-length, part-suc}
+use Rattle.bucket.proofs.TestLaws.{and-fails, and-holds, cond-kept, cond-made}
 use Rattle.filter.specs.Table.{hashesOf, firstEight, idsOf, isTable, position, holds}
 use Rattle.filter.proofs.BisectLaws.{holds-there, holds-past}
-use Rattle.filter.proofs.TableLaws.{hashes-length, ids-length, hash-at, table-whole, table-count}
+use Rattle.filter.proofs.TableLaws.{hashes-length, ids-length, hash-at, table-whole, table-count, first-eight-part}
 use Rattle.message.proofs.WholeLaws.{part-below}
-use Rattle.session.specs.Memory.{isMet}
-use Rattle.session.specs.Moves.{placeOf, isHeldAt, hashAtPlace, placeOfHash}
+use Rattle.ledger.specs.Memory.{isMet}
+use Rattle.session.specs.Moves.{placeOf, isHeldAt, hashAtPlace, placeOfHash, isUnmetAt, unmetAt}
 use Rattle.session.specs.Ready.{Placed}
-use Rattle.session.proofs.PutInLaws.{id-bytes}
 
 -- ---- a search for an ID
 
@@ -122,6 +122,55 @@ module _ (M : List ℕ) (p : ℕ) where
           let far : 8192 ≤ p = ltb-false p 8192 q in
           absurd (true≢false (sym e ∙ sym (held-none (omega arith) far)))
 
+-- ---- a demand that is unmet
+
+module _ (M : List ℕ) (p : ℕ) where
+  pub unmet-inside : ltb p 4096 || leb 8192 p ≡ false → (4096 ≤ p) × (p < 8192)
+  unmet-inside e = go (ltb p 4096) refl
+    where
+      go : (b : Bool) → ltb p 4096 ≡ b → (4096 ≤ p) × (p < 8192)
+      go true l = absurd (true≢false (sym (ap (λ (b : Bool). b || leb 8192 p) l) ∙ e))
+      go false l = (ltb-false p 4096 l, leb-false 8192 p (sym (ap (λ (b : Bool). b || leb 8192 p) l) ∙ e))
+
+  pub unmet-outside : ltb p 4096 || leb 8192 p ≡ true → 8192 ≡ unmetAt M p
+  unfolding unmetAt
+  unmet-outside e = cond-kept p 8192 (go (ltb p 4096) refl)
+    where
+      go : (b : Bool) → ltb p 4096 ≡ b → isUnmetAt M p ≡ false
+      go true l = ap (λ (b : Bool). b && (ltb p 8192 && not (isMet (getD M p 0)))) (lt-leb 4096 p (ltb-true p 4096 l))
+      go false l =
+          let far = leb-true 8192 p (sym (ap (λ (b : Bool). b || leb 8192 p) l) ∙ e) in
+          and-fails (leb 4096 p) (ap (λ (b : Bool). b && not (isMet (getD M p 0))) (le-ltb p 8192 far))
+
+  pub unmet-met : isMet (getD M p 0) ≡ true → 8192 ≡ unmetAt M p
+  unfolding unmetAt
+  unmet-met e = cond-kept p 8192 (and-fails (leb 4096 p) (and-fails (ltb p 8192) (ap not e)))
+
+  pub unmet-there : ltb p 4096 || leb 8192 p ≡ false → isMet (getD M p 0) ≡ false → p ≡ unmetAt M p
+  unfolding unmetAt
+  unmet-there e f =
+      let (low, high) = unmet-inside e in
+      cond-made p 8192 (and-holds (le-leb 4096 p low) (and-holds (lt-ltb p 8192 high) (ap not f)))
+
+  -- what the answer tells
+  pub unmet-found : {q : ℕ} → q ≡ unmetAt M p → q < 8192 → (isUnmetAt M p ≡ true) × (q ≡ p)
+  unfolding unmetAt
+  unmet-found {q} e l = go (isUnmetAt M p) refl
+    where
+      go : (b : Bool) → isUnmetAt M p ≡ b → (isUnmetAt M p ≡ true) × (q ≡ p)
+      go true u = (u, e ∙ sym (cond-made p 8192 u))
+      go false u = let none = e ∙ sym (cond-kept p 8192 u) in absurd (omega arith)
+
+  pub unmet-missed : {q : ℕ} → q ≡ unmetAt M p → 8192 ≤ q → isUnmetAt M p ≡ false
+  unfolding unmetAt
+  unmet-missed {q} e l = go (isUnmetAt M p) refl
+    where
+      go : (b : Bool) → isUnmetAt M p ≡ b → isUnmetAt M p ≡ false
+      go false u = u
+      go true u =
+          let at = e ∙ sym (cond-made p 8192 u) in
+          and-fails (leb 4096 p) (ap (λ (b : Bool). b && not (isMet (getD M p 0))) (le-ltb p 8192 (omega arith)))
+
 -- ---- 64 bytes
 
 pub bytes-back : (at : ℕ) (l : List ℕ) → at + 64 ≤ length l → Below 8 l → groups 8 64 (joined 8 (part at 64 l)) ≡ part at 64 l
@@ -178,7 +227,7 @@ module _ (table known : List ℕ) (at : ℕ) (s : List ℕ) (room : at + 64 ≤ 
     (is : p ≡ placeOf (idsOf firstEight table) (idsOf firstEight known) id) where
   pub place-here : p ≡ placeOf (map firstEight (hashesOf table)) (map firstEight (hashesOf known)) (firstEight (joined 8 (part at 64 s)))
   unfolding idsOf
-  place-here = is ∙ ap (placeOf (idsOf firstEight table) (idsOf firstEight known)) (read ∙ sym (id-bytes at s room))
+  place-here = is ∙ ap (placeOf (idsOf firstEight table) (idsOf firstEight known)) (read ∙ sym (first-eight-part at s room))
 
   by-tests : (t u : Bool) → ltb p 8192 ≡ t → eqb (hashAtPlace (hashesOf table) (hashesOf known) p) (joined 8 (part at 64 s)) ≡ u
       → cond t (cond u p 8192) 8192 ≡ placeOfHash firstEight (hashesOf table) (hashesOf known) (joined 8 (part at 64 s))

@@ -20,18 +20,18 @@ use Rattle.bucket.specs.Lists.{elem}
 use Rattle.filter.specs.Table.{position, holds}
 use Rattle.filter.proofs.BisectLaws.{held as held-in-order}
 use Rattle.filter.proofs.OrderLaws.{same-test}
-use Rattle.session.specs.Session.{Ledger, unmet, hashOf, held, heldIds, asking, serving, gaining}
-use Rattle.session.specs.Memory.{isAsked, isOffered, isServed, isMet, markOf, flagOf}
+use Rattle.ledger.specs.Session.{Ledger, unmet, hashOf, held, heldIds, asking, serving, gaining}
+use Rattle.ledger.specs.Memory.{isAsked, isOffered, isServed, isMet, markOf, flagOf}
 use Rattle.session.specs.Moves.{placeOf, isHeldAt, hashAtPlace, placeOfHash}
-use Rattle.session.proofs.SetLaws.{_∈_, clash, not-in, in-append-l, in-append-r, Asc, of-asc}
-use Rattle.session.proofs.ListLaws.{in-map, map-in}
-use Rattle.session.proofs.BookLaws.{Books}
-use Rattle.session.proofs.HeldLaws.{in-ids, ids-in, hash-of, held-in, gained-held, table-held, in-unmet, unmet-in}
-use Rattle.session.proofs.MemoryLaws.{held-known, mark-of-asked, mark-of-offered, mark-of-served, flag-of-asked, flag-of-offered, flag-of-served, flag-of-met}
-use Rattle.session.proofs.PointLaws.{position-within, position-at, position-map}
+use Rattle.filter.proofs.SetLaws.{_∈_, clash, not-in, in-append-l, in-append-r, Asc, of-asc}
+use Rattle.filter.proofs.ListLaws.{in-map, map-in}
+use Rattle.ledger.proofs.BookLaws.{Books}
+use Rattle.ledger.proofs.HeldLaws.{in-ids, ids-in, hash-of, held-in, gained-held, table-held, in-unmet, unmet-in}
+use Rattle.ledger.proofs.MemoryLaws.{held-known, mark-of-asked, mark-of-offered, mark-of-served, flag-of-asked, flag-of-offered, flag-of-served, flag-of-met}
+use Rattle.ledger.proofs.PointLaws.{position-within, position-at, position-map}
 use Rattle.session.proofs.PlaceLaws.{place-first, place-second, place-none, held-first, held-second, held-none}
-use Rattle.session.proofs.ActLaws.{marks-asking, flags-asking-table, flags-asking, marks-asking-record, marks-serving, flags-serving-table, flags-serving, marks-serving-record, marks-gaining, flags-gaining}
-use Rattle.session.proofs.LaidLaws.{laidMarks, laid-table, laid-known, change-table, change-known}
+use Rattle.ledger.proofs.ActLaws.{marks-asking, flags-asking-table, flags-asking, marks-asking-record, marks-serving, flags-serving-table, flags-serving, marks-serving-record, marks-gaining, flags-gaining}
+use Rattle.ledger.proofs.LaidLaws.{laidMarks, laid-table, laid-known, change-table, change-known}
 
 pub record Ordered (derive : ℕ → ℕ) (t : List ℕ) (L : Ledger) : Type 0 where
   pub books : Books derive t L

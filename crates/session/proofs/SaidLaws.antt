@@ -1,15 +1,14 @@
 -- The items of a message as the code reads them are those of its content; and what its length allows.
-use mathlib.Core.Path.{_≡_, refl, sym, ap, subst}
+use mathlib.Core.Path.{_≡_, refl, ap}
 use mathlib.Core.Bool.{Bool, true, false, _&&_, cond}
-use mathlib.Core.List.{List, [], _∷_}
-use mathlib.Core.Logic.{_⊎_, inl, inr}
-use Prim.Native.Nat.{ℕ, suc, _+_, _*_, _/_, _^_, _≤_, _<_}
+use mathlib.Core.List.{List}
+use Prim.Native.Nat.{ℕ, _+_, _*_, _/_, _^_, _≤_, _<_}
 use native.Mathlib.Omega.{arith}
 use borrow.Author.Tests.{eqb-true}
 use lib.Dec.{eqb, leb}
-use lib.ListN.{length, take, drop, length-drop}
+use lib.ListN.{length, drop, length-drop}
 use lib.Seq.{take-all}
-use Rattle.bucket.specs.Digits.{joined, groups, spare, unpacked, Below}
+use Rattle.bucket.specs.Digits.{joined, groups, spare, unpacked}
 use Rattle.bucket.specs.Lists.{part}
 use Rattle.bucket.proofs.DigitLaws.{groups-below}
 use Rattle.bucket.proofs.OverLaws.{part-length}
@@ -19,8 +18,8 @@ use Rattle.message.specs.Layout.{inquiry, offer, demand, done}
 use Rattle.message.specs.Reading.{content, field, parse, parseBody}
 use Rattle.message.proofs.ReadLaws.{field-lt}
 use Rattle.message.proofs.ShapeLaws.{shape}
-use Rattle.session.proofs.SetLaws.{_∈_, in-cons, not-in-nil, and-r}
-use Rattle.session.proofs.PutInLaws.{Hashes}
+use Rattle.filter.proofs.SetLaws.{and-r}
+use Rattle.ledger.proofs.BelowLaws.{Fit, fit-of}
 
 rest-all : (at k : ℕ) (bs : List ℕ) → length bs ≡ at + k → part at k bs ≡ drop at bs
 rest-all at k bs e = take-all k (drop at bs) (let l = length-drop at bs in omega arith)
@@ -34,18 +33,9 @@ size-short bs m e never = go (leb 4 (length bs) && eqb (field 2 0 bs) (length bs
     go false q e = absurd (never e)
     go true q e = let f = eqb-true (field 2 0 bs) (length bs) (and-r (leb 4 (length bs)) (eqb (field 2 0 bs) (length bs)) q) in omega (arith, field-lt 2 0 bs)
 
-in-below : (l : List ℕ) → Below 512 l → (h : ℕ) → h ∈ l → h < 2 ^ 512
-in-below [] b h e = absurd (not-in-nil h e)
-in-below (a ∷ l) b h e = go (in-cons h a l e) (in-below l (λ i. b (suc i)) h)
-  where
-    go : (h ≡ a) ⊎ (h ∈ l) → (h ∈ l → h < 2 ^ 512) → h < 2 ^ 512
-    go (inl q) ih = subst (λ (x : ℕ). x < 2 ^ 512) (sym q) (b 0)
-    go (inr q) ih = ih q
-
--- a number of 512 bits is a hash
-pub items-short : (n : ℕ) (bs : List ℕ) → Hashes (unpacked 512 n bs)
+pub items-short : (n : ℕ) (bs : List ℕ) → Fit 512 (unpacked 512 n bs)
 unfolding unpacked
-items-short n bs h e = in-below (groups 512 n (joined 8 bs / 2 ^ spare (512 * n))) (groups-below 512 n (joined 8 bs / 2 ^ spare (512 * n))) h e
+items-short n bs h e = fit-of 512 (groups 512 n (joined 8 bs / 2 ^ spare (512 * n))) (groups-below 512 n (joined 8 bs / 2 ^ spare (512 * n))) h e
 
 module _ (bs : List ℕ) where
   module _ (salt n : ℕ) (e : parse bs ≡ Inquiry salt n) where

@@ -12,9 +12,9 @@ use Rattle.message.specs.Laying.{isSlice}
 use Rattle.message.specs.Layout.{Good}
 use Rattle.message.specs.Reading.{content}
 use Rattle.message.specs.Walking.{exactlyOne}
-use Rattle.session.specs.Calls.{Given, left, stepSaid}
+use Rattle.ledger.specs.Calls.{Given, left, stepSaid}
 use Rattle.session.specs.Turns.{sliceTurn, lastTurn}
-use Rattle.session.proofs.Sound.{Sound}
+use Rattle.ledger.proofs.Sound.{Sound}
 use Rattle.session.proofs.LastGranted.{last-is-last, other-not-last, slice-good}
 use Rattle.session.proofs.SliceTie.{slice-tie}
 use Rattle.session.proofs.LastTie.{last-tie}

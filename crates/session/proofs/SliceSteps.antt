@@ -1,53 +1,32 @@
--- What the ties of both slices share: a step by its refusal, the grid's entry and the order of slices, a refusal that changes the state alone,
--- and a step that leaves the ledger as it is. Assumes nothing.
+-- What the ties of both slices share: the grid's entry, the order of slices and what a reading may have against it, and a step that leaves the
+-- ledger as it is. Assumes nothing.
 use mathlib.Core.Path.{_≡_, refl, ap, ap₂, _∙_}
-use mathlib.Core.Bool.{Bool, true, false, not, _&&_, cond}
-use mathlib.Core.List.{List, [], _∷_, _++_, append-nil}
+use mathlib.Core.Bool.{Bool, true, false, not, _&&_, _||_, cond}
+use mathlib.Core.List.{List, [], _∷_}
 use Prim.Native.Nat.{ℕ}
-use native.Mathlib.Omega.{arith}
-use lib.Dec.{eqb, leb}
+use lib.Dec.{eqb, ltb, leb}
 use lib.ListN.{length}
-use borrow.Author.Tests.{ne-eqb}
 use Rattle.bucket.specs.Digits.{packed}
 use Rattle.bucket.specs.Lists.{over}
+use Rattle.filter.specs.declared.answers.Refusal.{Refusal}
+use Rattle.filter.specs.declared.answers.Refusal.the-variants.{Malformed, OutOfTurn, FalseReading, Swaps, Limit}
+use Rattle.filter.specs.Answers.{refusalNumber, firstOf}
+use Rattle.filter.specs.Sets.{implies}
 use Rattle.filter.specs.Table.{firstEight}
 use Rattle.filter.specs.Calls.{Read}
 use Rattle.message.specs.Laying.{laid}
 use Rattle.message.specs.Layout.{Content, slice}
 use Rattle.message.specs.Writing.{layouts}
-use Rattle.message.proofs.WholeLaws.{packed-nil}
-use Rattle.session.specs.declared.numbers.Numbers.{Numbers}
-use Rattle.session.specs.Grid.{PASSIVE, FINISHED, ABORTED, isLast, entry}
-use Rattle.session.specs.Session.{Ledger, Session, answer, firstFault, acts, clears, stopped, admitted, placed, isComplete, isFalse, readingAt, tooMany, refusal, faults, refused}
-use Rattle.session.specs.Memory.{bit, marksOf, flagsOf}
-use Rattle.session.specs.Calls.{Given, left, numbered, answered, numbersOf, tableOf, hashGiven, sessionOf, ended, went, stepOn}
-use Rattle.session.specs.Turns.{aborted, admitsSlice, isPlaced}
-use Rattle.session.proofs.GridLaws.{slice-kind}
-use Rattle.session.proofs.GivenLaws.{same-records, same-marks, same-inquired, same-numbers}
-use Rattle.session.proofs.Sound.{Sound}
-use Rattle.session.proofs.Theorems.{refusal-buffers}
-use Rattle.session.proofs.TurnLaws.{sessionIn, refusalIn, actIn, halted-tie}
-
--- ---- a step, by its refusal
-
-module _ (G : Given) (c : Content) where
-  pub step-by : (n : ℕ) → refusalIn G c ≡ n
-      → stepOn firstEight c G ≡ cond (acts n) (went firstEight n (actIn G c) G)
-      (ended n (refused firstEight (tableOf G) n (sessionIn G) c) G)
-  unfolding stepOn
-  step-by n e =
-      ap (λ (k : ℕ). cond (acts k) (went firstEight k (actIn G c) G)
-      (ended k (refused firstEight (tableOf G) k (sessionIn G) c) G)) e
-
-module _ (G : Given) (s : Sound G) where
-  pub stops : stopped (sessionIn G .state) ≡ ABORTED
-  unfolding sessionOf
-  stops = ap (λ (b : Bool). cond b FINISHED ABORTED) (ne-eqb (G .numbers .state) FINISHED (λ e. absurd (omega (arith, s .state))))
-
-  -- a refusal that changes the state alone: neither 9 nor 10
-  pub halts : (c : Content) (n : ℕ) → acts n ≡ false → clears n ≡ false → refusalIn G c ≡ n
-      → left (aborted n (G .numbers)) (G .records) (G .marks) (G .inquired) (G .columns) (G .ours) (G .theirs) (G .out) ≡ stepOn firstEight c G
-  halts c n stays other e = halted-tie G s c n stays (refusal-buffers firstEight (tableOf G) n (sessionIn G) c other) e
+use Rattle.ledger.specs.declared.numbers.Numbers.{Numbers}
+use Rattle.ledger.specs.Grid.{PASSIVE, isLast, entry}
+use Rattle.ledger.specs.Session.{Ledger, Session, answer, admitted, placed, isComplete, isFalse, readingAt, tooMany, tests, refusal}
+use Rattle.ledger.specs.Memory.{bit, marksOf, flagsOf}
+use Rattle.ledger.specs.Calls.{Given, left, numbered, answered, numbersOf, tableOf, sessionOf, went}
+use Rattle.form.specs.Answers.{admitsSlice, isPlaced}
+use Rattle.ledger.proofs.GridLaws.{slice-kind}
+use Rattle.ledger.proofs.GivenLaws.{same-records, same-marks, same-inquired, same-numbers}
+use Rattle.ledger.proofs.Sound.{Sound}
+use Rattle.session.proofs.TurnLaws.{sessionIn, refusalIn, sent-only}
 
 -- ---- the grid, the order, and what a reading may have against it
 
@@ -55,14 +34,14 @@ and-middle : (a b : Bool) → a && true && b ≡ a && b
 and-middle true b = refl
 and-middle false b = refl
 
-not-swaps : {A : Type 0} (b : Bool) (x y : A) → cond (not b) x y ≡ cond b y x
-not-swaps true x y = refl
-not-swaps false x y = refl
-
 -- the refusal of a reading, where the slice is the last
-abbrev pub readFault : Bool → List ℕ → ℕ → Read → ℕ
+abbrev pub readFault : Bool → List ℕ → ℕ → Read → Refusal
 readFault last t swaps r =
-    cond (last && tooMany firstEight t r) 10 (cond (last && (not (isComplete r) && leb 16 swaps)) 9 (cond (last && isFalse r) 6 0))
+    firstOf (
+    (Limit, implies last (not (tooMany firstEight t r)))
+    ∷ (Swaps, implies last (isComplete r || ltb swaps 16))
+    ∷ (FalseReading, implies last (not (isFalse r)))
+    ∷ [])
 
 module _ (G : Given) (size offset salt width : ℕ) (ids hashes counts : List ℕ) (last : Bool) (e : isLast size offset ≡ last) where
   pub admits-is : admitted (sessionIn G) (slice size offset salt width ids hashes counts) ≡ admitsSlice (G .numbers) (cond last 1 0)
@@ -77,20 +56,13 @@ module _ (G : Given) (size offset salt width : ℕ) (ids hashes counts : List �
 
   pub slice-refusal :
       refusalIn G (slice size offset salt width ids hashes counts)
-      ≡ cond (admitsSlice (G .numbers) (cond last 1 0))
-      (cond (isPlaced (G .numbers) size offset salt width) (readFault last (tableOf G) (G .numbers .swaps) read) 4) 5
-  unfolding refusal faults firstFault placed isPlaced sessionOf
-  slice-refusal =
-      ap (λ (a : Bool). cond a (firstFault (faults firstEight (tableOf G) (hashGiven G) (sessionIn G) (slice size offset salt width ids hashes counts))) 5) admits-is
-      ∙ ap (λ (n : ℕ). cond (admitsSlice (G .numbers) (cond last 1 0)) n 5)
-      (not-swaps (isPlaced (G .numbers) size offset salt width) 4 (readFault (isLast size offset) (tableOf G) (G .numbers .swaps) read)
-      ∙ ap (λ (b : Bool). cond (isPlaced (G .numbers) size offset salt width) (readFault b (tableOf G) (G .numbers .swaps) read) 4) e)
+      ≡ refusalNumber (cond (admitsSlice (G .numbers) (cond last 1 0))
+      (cond (isPlaced (G .numbers) size offset salt width) (readFault last (tableOf G) (G .numbers .swaps) read) Malformed) OutOfTurn)
+  unfolding refusal tests placed isPlaced sessionOf
+  slice-refusal = λ i.
+      refusalNumber (cond (admits-is i) (cond (isPlaced (G .numbers) size offset salt width) (readFault (e i) (tableOf G) (G .numbers .swaps) read) Malformed) OutOfTurn)
 
 -- ---- a step that leaves the ledger as it is
-
--- no elements are due
-pub sent-only : (cs : List Content) (out : List ℕ) → over 0 (layouts cs ++ packed 512 []) out ≡ over 0 (layouts cs) out
-sent-only cs out = ap (λ (l : List ℕ). over 0 l out) (ap (λ (l : List ℕ). layouts cs ++ l) (packed-nil 64) ∙ append-nil (layouts cs))
 
 module _ (G : Given) (s : Sound G) (u : Session) (same : u .ledger ≡ sessionIn G .ledger) where
   pub went-same : u .far ≡ sessionIn G .far → (n : ℕ) (cs : List Content)

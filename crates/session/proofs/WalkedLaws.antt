@@ -12,10 +12,10 @@ use Rattle.bucket.specs.Lists.{elem}
 use Rattle.bucket.proofs.ListLaws.{elem-head, elem-tail}
 use Rattle.filter.specs.Table.{firstEight, hashesOf, holds}
 use Rattle.message.proofs.RoundLaws.{hashes-below}
-use Rattle.session.specs.Memory.{isAsked}
+use Rattle.ledger.specs.Memory.{isAsked}
+use Rattle.ledger.proofs.BelowLaws.{Fit}
 use Rattle.session.specs.Moves.{placeOf, isHeldAt, hashAtPlace, goAll, Walk, walk, isFine, askAt, askOne, askAll, News, newsOf, isGood, newOne, newAll}
-use Rattle.session.proofs.SetLaws.{_∈_, not-in-nil, in-cons, append-in}
-use Rattle.session.proofs.PutInLaws.{Hashes}
+use Rattle.filter.proofs.SetLaws.{_∈_, not-in-nil, in-cons, append-in}
 use Rattle.session.proofs.AskLaws.{asked-few}
 
 -- what each item keeps, all do
@@ -33,7 +33,7 @@ go-keeps fine f P (x ∷ xs) step w s = go (fine (f x w)) (go-keeps fine f P xs 
     go false all = next
 
 -- one more hash of 64 bytes
-pub hashes-more : (hs : List ℕ) (h : ℕ) → Hashes hs → h < 2 ^ 512 → Hashes (hs ++ h ∷ [])
+pub hashes-more : (hs : List ℕ) (h : ℕ) → Fit 512 hs → h < 2 ^ 512 → Fit 512 (hs ++ h ∷ [])
 hashes-more hs h short less x e = go (append-in x hs (h ∷ []) e)
   where
     last : (x ≡ h) ⊎ (x ∈ []) → x < 2 ^ 512
@@ -49,7 +49,7 @@ hashes-more hs h short less x e = go (append-in x hs (h ∷ []) e)
 pub record Asked (n : ℕ) (w : Walk) : Type 0 where
   pub same : length (w .marks) ≡ n
   pub few : length (w .hashes) ≤ 4096
-  pub short : Hashes (w .hashes)
+  pub short : Fit 512 (w .hashes)
 
 module _ (table known : List ℕ) where
   place-short : (p : ℕ) → hashAtPlace (hashesOf table) (hashesOf known) p < 2 ^ 512
@@ -89,7 +89,7 @@ module _ (table known : List ℕ) where
 
 -- ---- OFFER
 
-new-keeps : (t K I : List ℕ) (active : Bool) (h : ℕ) → h < 2 ^ 512 → (w : News) → Hashes (w .hashes) → Hashes (newOne firstEight t K I active h w .hashes)
+new-keeps : (t K I : List ℕ) (active : Bool) (h : ℕ) → h < 2 ^ 512 → (w : News) → Fit 512 (w .hashes) → Fit 512 (newOne firstEight t K I active h w .hashes)
 unfolding newOne
 new-keeps t K I active h less w s =
     go (ltb p 8192) (eqb (hashAtPlace t K p) h) (elem (firstEight h) (map firstEight (w .hashes))) (elem h (w .hashes)) (active && not (holds I (firstEight h)))
@@ -100,7 +100,7 @@ new-keeps t K I active h less w s =
     bad : News
     bad = newsOf false (w .hashes)
 
-    go : (a b c d e : Bool) → Hashes (cond a (cond b w bad) (cond c (cond d w bad) (cond e bad (newsOf true (w .hashes ++ h ∷ [])))) .hashes)
+    go : (a b c d e : Bool) → Fit 512 (cond a (cond b w bad) (cond c (cond d w bad) (cond e bad (newsOf true (w .hashes ++ h ∷ [])))) .hashes)
     go true true c d e = s
     go true false c d e = s
     go false b true true e = s
@@ -108,6 +108,6 @@ new-keeps t K I active h less w s =
     go false b false d true = s
     go false b false d false = hashes-more (w .hashes) h s less
 
-pub new-short : (t K I : List ℕ) (active : Bool) (hs : List ℕ) → Hashes hs → Hashes (newAll firstEight t K I active hs .hashes)
+pub new-short : (t K I : List ℕ) (active : Bool) (hs : List ℕ) → Fit 512 hs → Fit 512 (newAll firstEight t K I active hs .hashes)
 new-short t K I active hs short =
-    go-keeps isGood (newOne firstEight t K I active) (λ w. Hashes (w .hashes)) hs (λ h e w s. new-keeps t K I active h (short h e) w s) (newsOf true []) (λ h e. absurd (not-in-nil h e))
+    go-keeps isGood (newOne firstEight t K I active) (λ w. Fit 512 (w .hashes)) hs (λ h e w s. new-keeps t K I active h (short h e) w s) (newsOf true []) (λ h e. absurd (not-in-nil h e))

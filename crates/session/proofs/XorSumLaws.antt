@@ -12,7 +12,7 @@ use lib.ListN.{length, getD, set, drop, length-set, List·getD-eq-default, take,
 use lib.Seq.{getD-set-same, getD-set-other, getD-drop, getD-take, take-all, take-length, take-suc, length-take-le}
 use borrow.Author.Count.{below-more}
 use borrow.Author.Tests.{eqb-true, eqb-false, ltb-true, ltb-false}
-use Rattle.bucket.specs.Digits.{joined, Below, packed}
+use Rattle.bucket.specs.Digits.{joined, packed}
 use Rattle.bucket.specs.Lists.{part}
 use Rattle.bucket.specs.Crc.{tabulated}
 use Rattle.bucket.proofs.DigitLaws.{joined-lt}
@@ -21,8 +21,9 @@ use Rattle.bucket.proofs.XorLaws.{xor-assoc}
 use Rattle.filter.specs.Table.{hashAt, hashesOf}
 use Rattle.filter.proofs.TableLaws.{hashes-length, hash-at}
 use Rattle.message.proofs.HashLaws.{hashes-packed}
+use Rattle.ledger.proofs.BelowLaws.{zeros-below}
 use Rattle.session.specs.Ready.{Sum, Adds}
-use Rattle.session.specs.Memory.{isMet, marked}
+use Rattle.ledger.specs.Memory.{isMet, marked}
 
 -- ---- bytes
 
@@ -220,13 +221,8 @@ unfolding joined
 joined-zeros zero = refl
 joined-zeros (suc n) = ap₂ (λ (a b : ℕ). a + b) (zero-mul (2 ^ (8 * length (replicate n 0)))) (joined-zeros n)
 
-zeros-fit : (n : ℕ) → Below 8 (replicate n 0)
-zeros-fit zero i = omega arith
-zeros-fit (suc n) zero = omega arith
-zeros-fit (suc n) (suc i) = zeros-fit n i
-
 pub sum-start : Sum 0 (replicate 64 0)
-sum-start = record { sum = joined-zeros 64; size = refl; fit = zeros-fit 64 }
+sum-start = record { sum = joined-zeros 64; size = refl; fit = zeros-below 8 64 }
 
 one-hash : (acc : List ℕ) → length acc ≡ 64 → hashesOf acc ≡ joined 8 acc ∷ []
 unfolding hashesOf hashAt tabulated

@@ -1,44 +1,21 @@
 -- What a step's own functions compute before and beside the messages': cited by private contracts alone (proofs/StepLaws ties them to Calls).
-use mathlib.Core.Bool.{Bool, _&&_}
 use mathlib.Core.List.{List}
 use Prim.Native.Nat.{ℕ, _*_, _≤_, _<_}
-use lib.Dec.{eqb, ltb, leb}
-use lib.IntN.{ℤ}
 use lib.ListN.{length, take}
 use Rattle.bucket.specs.Digits.{joined, unpacked}
 use Rattle.bucket.specs.Lists.{part}
 use Rattle.filter.specs.declared.answers.Refusal.the-variants.{Malformed}
 use Rattle.filter.specs.Answers.{refusalNumber}
-use Rattle.filter.specs.Calls.{inRange, areCounts}
-use Rattle.filter.specs.Table.{firstEight, hashesOf, isTable}
+use Rattle.filter.specs.Table.{hashesOf}
 use Rattle.message.specs.declared.kinds.Message.{Message}
 use Rattle.message.specs.declared.kinds.Message.the-variants.{Ibf, IbfLast, Inquiry, Offer, Demand, Element, Done}
-use Rattle.session.specs.declared.numbers.Numbers.{Numbers}
-use Rattle.session.specs.declared.numbers.Answer.{Answer}
-use Rattle.session.specs.declared.tallying.Tally.{Tally}
-use Rattle.session.specs.Sets.{implies}
-use Rattle.session.specs.Grid.{EXPECTING-LAST}
+use Rattle.ledger.specs.declared.numbers.Numbers.{Numbers}
+use Rattle.ledger.specs.declared.numbers.Answer.{Answer}
+use Rattle.form.specs.declared.tallying.Tally.{Tally}
 use Rattle.session.specs.Moves.{Stored, stored}
 use Rattle.session.specs.Ready.{Kept}
-use Rattle.session.specs.Turns.{aborted, inquiryTurn, demandTurn, elementTurn, doneTurn, offerTurn}
-
-unfoldable pub numbersFit : Numbers → Bool
-numbersFit N =
-    leb (N .first) 1
-    && (leb (N .done) 1
-    && (leb (N .demanded) 4096
-    && (leb (N .inquired) 4096 && (ltb (N .state) 8 && (leb (N .swaps) 16 && inRange (N .size) (N .salt))))))
-
-unfoldable pub frontBy : Numbers → List ℕ → List ℤ → Bool
-frontBy N table counts =
-    isTable firstEight table && (numbersFit N && implies (eqb (N .state) EXPECTING-LAST) (areCounts 2520 counts))
-
-unfoldable pub ledgerRooms : ℕ → ℕ → ℕ → Bool
-ledgerRooms records marks inquired = leb 262208 records && (leb 8192 marks && leb 4096 inquired)
-
-unfoldable pub otherRooms : (ids hashes counts ours theirs hash out : ℕ) → Bool
-otherRooms ids hashes counts ours theirs hash out =
-    (leb 4096 ids && (leb 4096 hashes && leb 4096 counts)) && (leb 4096 ours && (leb 4096 theirs && (leb 64 hash && leb 295008 out)))
+use Rattle.form.specs.Answers.{aborted}
+use Rattle.session.specs.Turns.{inquiryTurn, demandTurn, elementTurn, doneTurn, offerTurn}
 
 -- everything is in its form: what the messages' functions count on
 pub record InForm (N : Numbers) (table records marks inquired hash out : List ℕ) (T : Tally) : Type 0 where

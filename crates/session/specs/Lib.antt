@@ -1,12 +1,4 @@
--- The definitions of the crate `session`, in the order in which a reader meets them. Numbers states document 01's bare numbers of them; those
--- behind it are cited by private contracts alone.
-pub mod Sets
-pub mod Grid
-pub mod Session
-pub mod Form
-pub mod Memory
-pub mod Calls
-pub mod Numbers
+-- What private contracts of the crate `session` cite. A reader has nothing to believe here: the definitions stand in `ledger`.
 pub mod Moves
 pub mod Turns
 pub mod Ready

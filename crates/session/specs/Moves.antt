@@ -14,7 +14,7 @@ use Rattle.filter.specs.Lists.{select}
 use Rattle.filter.specs.Table.{firstEight, idsOf, position, holds}
 use Rattle.session.specs.declared.offering.Item.{Item}
 use Rattle.session.specs.declared.offering.Item.the-variants.{Known, New, Bad}
-use Rattle.session.specs.Memory.{isAsked, isOffered, isServed, isMet, marked}
+use Rattle.ledger.specs.Memory.{isAsked, isOffered, isServed, isMet, marked}
 
 -- ---- places
 
@@ -33,6 +33,13 @@ unfoldable pub placeOfHash : (ℕ → ℕ) → List ℕ → List ℕ → ℕ →
 placeOfHash derive t K h =
     let p = placeOf (map derive t) (map derive K) (derive h) in
     cond (ltb p 8192) (cond (eqb (hashAtPlace t K p) h) p 8192) 8192
+
+-- a place of a demand that is unmet; 8,192 for any other
+abbrev pub isUnmetAt : List ℕ → ℕ → Bool
+isUnmetAt M p = leb 4096 p && (ltb p 8192 && not (isMet (getD M p 0)))
+
+unfoldable pub unmetAt : List ℕ → ℕ → ℕ
+unmetAt M p = cond (isUnmetAt M p) p 8192
 
 -- ---- the items of a message, one after the other, up to the first that is bad
 
@@ -129,31 +136,6 @@ hashInto n p h l = over (64 * p) (h ++ part (64 * p) (64 * (n - p)) l) l
 
 unfoldable pub markInto : ℕ → ℕ → List ℕ → List ℕ
 markInto n p M = over (4096 + p) (0 ∷ part (4096 + p) (n - p) M) M
-
--- ---- tests of marks
-
--- a table's mark: served ones were offered
-unfoldable pub tableMark : ℕ → Bool
-tableMark m = ltb m 8 && not (isServed m && not (isOffered m))
-
--- a demanded hash's: only a met one has marks
-unfoldable pub recordMark : ℕ → Bool
-recordMark m = ltb m 16 && (not (isServed m && not (isOffered m)) && (isMet m || eqb m 0))
-
-unfoldable pub allOf : (ℕ → Bool) → List ℕ → Bool
-allOf p [] = true
-allOf p (m ∷ ms) = p m && allOf p ms
-
-unfoldable pub metCount : List ℕ → ℕ
-metCount [] = 0
-metCount (m ∷ ms) = cond (isMet m) 1 0 + metCount ms
-
-abbrev pub isZero : ℕ → Bool
-isZero m = eqb m 0
-
--- how many numbers of the first list stand in the second
-unfoldable pub common : List ℕ → List ℕ → ℕ
-common l m = length (select (λ x. elem x m) l)
 
 -- ---- checksums
 

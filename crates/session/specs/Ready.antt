@@ -11,15 +11,19 @@ use Rattle.bucket.specs.Lists.{over}
 use Rattle.bucket.specs.Columns.{Columns}
 use Rattle.filter.specs.declared.answers.ReadAnswer.{ReadAnswer}
 use Rattle.filter.specs.declared.answers.Refusal.the-variants.{None}
-use Rattle.filter.specs.Calls.{inRange, hasRoom, readRefusal}
-use Rattle.filter.specs.Table.{firstEight, idsOf, isTable}
+use Rattle.filter.specs.Calls.{Read, inRange, hasRoom, readRefusal}
+use Rattle.filter.specs.Table.{firstEight, hashesOf, idsOf, isTable}
 use Rattle.message.specs.Laying.{laid, isSlice}
+use Rattle.message.specs.Layout.{Content}
 use Rattle.message.specs.Reading.{content}
 use Rattle.message.specs.Walking.{exactlyOne}
+use Rattle.message.specs.Writing.{layouts}
 use Rattle.session.specs.declared.filters.Fate.{Fate}
-use Rattle.session.specs.declared.numbers.Numbers.{Numbers}
-use Rattle.session.specs.Sets.{within}
-use Rattle.session.specs.Turns.{isPlaced, fateOf}
+use Rattle.ledger.specs.declared.numbers.Numbers.{Numbers}
+use Rattle.ledger.specs.Session.{clears}
+use Rattle.filter.specs.Sets.{within}
+use Rattle.form.specs.Answers.{isPlaced}
+use Rattle.session.specs.Turns.{fateOf, wiped, kept}
 use Rattle.session.specs.Moves.{Walk, News}
 
 -- a place of the table or of the demanded hashes
@@ -61,10 +65,24 @@ pub record Opens (table ours marks : List ℕ) : Type 0 where
   pub ours-held : within ours (idsOf firstEight table) ≡ true
   pub marks-room : 8192 ≤ length marks
 
+-- messages written from the start of the outgoing buffer, and where they end
+pub record Sent (cs : List Content) (before after : List ℕ) (n : ℕ) : Type 0 where
+  pub count : n ≡ length (layouts cs)
+  pub bytes : after ≡ over 0 (layouts cs) before
+
 -- a slice, and the columns that it is to be laid into
 pub record Lays (message : List ℕ) (c : Columns) : Type 0 where
   pub slice : isSlice (exactlyOne message) ≡ true
   pub room : hasRoom 4096 c ≡ true
+
+-- the last slice of a filter, and the reading of it
+pub record Whole (table message : List ℕ) (size salt : ℕ) (c : Columns) (ours theirs : List ℕ) : Type 0 where
+  pub lays : Lays message c
+  pub table-good : isTable firstEight table ≡ true
+  pub range : inRange size salt ≡ true
+  pub granted : readRefusal firstEight size salt table (laid (content (exactlyOne message) message) c) ours theirs ≡ None
+  pub ours-room : 4096 ≤ length ours
+  pub theirs-room : 4096 ≤ length theirs
 
 -- the last slice of a filter, and everything that follows from reading it
 pub record Reads (N : Numbers) (table message : List ℕ) (size offset salt width : ℕ) (c : Columns) (ours theirs marks inquired out : List ℕ) : Type 0 where
@@ -86,3 +104,8 @@ fated refusal complete ours theirs = record { refusal = refusal; complete = comp
 
 abbrev pub Fated : ReadAnswer → ℕ → ℕ → Fate → Type 0
 Fated a nt swaps f = f ≡ fated (fateOf a nt swaps) (eqb (a .complete) 1) (a .ours) (a .theirs)
+
+-- what a reading was told as, and what it leaves: nothing where the session may not go on
+pub record Ended (r : Read) (table : List ℕ) (size swaps : ℕ) (f : Fate) (after : Read) : Type 0 where
+  pub told : Fated (r .answer) (length (hashesOf table)) swaps f
+  pub leaves : after ≡ cond (clears (f .refusal)) (wiped size r) (kept r)

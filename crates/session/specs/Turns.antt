@@ -1,8 +1,8 @@
 -- What each message's function computes, in the code's own shape: cited by private contracts alone. Nothing here is to be believed: laws
 -- (proofs/*Tie) show that each turn is what `Calls` says of its message.
-use mathlib.Core.Bool.{Bool, true, false, not, _&&_, _||_, cond}
+use mathlib.Core.Bool.{Bool, not, _&&_, _||_, cond}
 use mathlib.Core.List.{List, [], _∷_, _++_, map, foldr}
-use Prim.Native.Nat.{ℕ, _+_, _-_}
+use Prim.Native.Nat.{ℕ, _+_}
 use lib.Bits.{bitXor}
 use lib.Dec.{eqb, ltb, leb}
 use lib.ListN.{length, getD, set, take}
@@ -14,66 +14,19 @@ use Rattle.filter.specs.declared.answers.ReadAnswer.{ReadAnswer}
 use Rattle.filter.specs.declared.answers.Refusal.the-variants.{Malformed, OutOfTurn, Breach, Checksum, Swaps, Limit}
 use Rattle.filter.specs.Answers.{refusalNumber}
 use Rattle.filter.specs.Calls.{Read, unread, filled, listedInto}
-use Rattle.filter.specs.Lists.{ascending}
-use Rattle.filter.specs.Table.{firstEight, hashesOf, idsOf, isTable, position}
+use Rattle.filter.specs.Table.{firstEight, hashesOf, idsOf, position}
 use Rattle.message.specs.Laying.{laid}
 use Rattle.message.specs.Layout.{Content, done}
+use Rattle.message.specs.Reading.{content}
+use Rattle.message.specs.Walking.{exactlyOne}
 use Rattle.message.specs.Writing.{layouts, inquiriesOf, offersOf, demandsOf}
-use Rattle.session.specs.declared.numbers.Numbers.{Numbers}
-use Rattle.session.specs.declared.numbers.Answer.{Answer}
-use Rattle.session.specs.declared.tallying.Tally.{Tally}
-use Rattle.session.specs.Sets.{implies, same}
-use Rattle.session.specs.Grid.{EXPECTING, EXPECTING-LAST, ACTIVE, PASSIVE, CLOSING, WAITING, FINISHED, ABORTED, entry}
-use Rattle.session.specs.Session.{nextSalt, nextSize, ownFilter, isComplete, oursIn, theirsIn, clears, readingAt}
-use Rattle.session.specs.Memory.{isMet}
-use Rattle.session.specs.Calls.{numbered, answered, inState}
-use Rattle.session.specs.Moves.{placeOfHash, askAll, serveAll, newAll, extra, Stored, stored, storeAll, insertedAll, tableMark, recordMark, allOf, metCount, isZero, common, checkOf}
-
--- ---- numbers
-
-abbrev pub aborted : ℕ → Numbers → Answer
-aborted n N = answered n 0 0 (inState ABORTED N)
-
--- a message has come, the state stays
-abbrev pub onward : Numbers → Numbers
-onward N = numbered (N .state) 0 (N .size) (N .salt) (N .width) (N .swaps) (N .done) (N .demanded) (N .inquired)
-
--- ---- the form of a ledger in memory, by counting
-
--- how many IDs of the demanded are the table's, of the inquired the table's, and of the demanded inquired
-abbrev pub idle : ℕ → ℕ → Bool
-idle state first = eqb state EXPECTING || (eqb state EXPECTING-LAST || (eqb state PASSIVE && eqb first 1))
-
-unfoldable pub formBy : (state first went nt n k both a b met : ℕ) → Bool → Bool
-formBy state first went nt n k both a b met zero =
-    eqb both 0
-    && (leb (nt + n + k) (4096 + a + b)
-    && (implies (idle state first) (eqb n 0 && (eqb k 0 && (zero && eqb went 0)))
-    && implies (eqb state ACTIVE) (eqb b n && same (eqb went 1) (eqb (a + met) k))))
-
-abbrev pub tallied : Bool → ℕ → ℕ → ℕ → Tally
-tallied good concerned came unmet = record { good = good; concerned = concerned; came = came; unmet = unmet }
-
--- of the table, the bytes of the demanded hashes, marks and the IDs inquired
-unfoldable pub goodTally : Numbers → List ℕ → List ℕ → List ℕ → List ℕ → Bool
-goodTally N table known M I =
-    let t = idsOf firstEight table in
-    let ks = idsOf firstEight known in
-    let fs = part 4096 (length ks) M in
-    isTable firstEight known
-    && (ascending I
-    && (allOf tableMark (take (length t) M)
-    && (allOf recordMark fs
-    && formBy (N .state) (N .first) (N .done) (length t) (length ks) (length I) (common ks t) (common I t) (common ks I) (metCount fs) (allOf isZero (take (length t) M)))))
-
-unfoldable pub tallyOf : Numbers → List ℕ → List ℕ → List ℕ → List ℕ → Tally
-tallyOf N table known M I =
-    let t = idsOf firstEight table in
-    let ks = idsOf firstEight known in
-    let fs = part 4096 (length ks) M in
-    cond (goodTally N table known M I)
-    (tallied true (length t + length ks + length I - common I t - common ks I) (common I t + metCount fs) (length ks - metCount fs))
-    (tallied false 0 0 0)
+use Rattle.ledger.specs.declared.numbers.Numbers.{Numbers}
+use Rattle.ledger.specs.declared.numbers.Answer.{Answer}
+use Rattle.ledger.specs.Grid.{ACTIVE, PASSIVE, CLOSING, WAITING, FINISHED, entry}
+use Rattle.ledger.specs.Session.{nextSalt, nextSize, ownFilter, isComplete, oursIn, theirsIn, clears, readingAt}
+use Rattle.ledger.specs.Calls.{numbered, answered}
+use Rattle.form.specs.Answers.{aborted, onward, withDemanded, closed, slicedNumbers, openedNumbers, admitsSlice, isPlaced}
+use Rattle.session.specs.Moves.{placeOfHash, isUnmetAt, askAll, serveAll, newAll, extra, Stored, stored, storeAll, insertedAll, checkOf}
 
 -- ---- INQUIRY, DEMAND, ELEMENT: marks change, and something is written
 
@@ -114,20 +67,25 @@ isClosing N unmet = (eqb (N .state) CLOSING || eqb (N .state) WAITING) && eqb un
 abbrev pub sendsDone : Numbers → ℕ → ℕ → Bool
 sendsDone N came unmet = (eqb (N .state) ACTIVE && eqb (came + 1) (N .inquired)) || (eqb (N .state) WAITING && eqb unmet 1)
 
-abbrev pub withElement : Numbers → ℕ → ℕ → Numbers
-withElement N came unmet =
-    numbered (cond (isClosing N unmet) FINISHED (N .state)) 0 (N .size) (N .salt) (N .width) (N .swaps) (cond (sendsDone N came unmet) 1 (N .done)) (N .demanded) (N .inquired)
+abbrev pub withElement : Numbers → (closing sends : Bool) → Numbers
+withElement N closing sends =
+    numbered (cond closing FINISHED (N .state)) 0 (N .size) (N .salt) (N .width) (N .swaps) (cond sends 1 (N .done)) (N .demanded) (N .inquired)
+
+-- a demand met at the place p
+unfoldable pub gainTurn : Numbers → List ℕ → List ℕ → ℕ → ℕ → (closing sends : Bool) → ℕ → List ℕ → List ℕ → MarkTurn
+gainTurn N t K far h closing sends p M out =
+    let check = bitXor (checkOf t K (part 4096 (length K) M)) h in
+    let cs = cond sends (done check ∷ []) [] in
+    cond (closing && not (eqb far check))
+    (markTurn (aborted (refusalNumber Checksum) N) M out)
+    (markTurn (answered 0 (length (layouts cs)) 0 (withElement N closing sends)) (set M p 8) (over 0 (layouts cs) out))
 
 unfoldable pub elementTurn : Numbers → List ℕ → List ℕ → ℕ → ℕ → ℕ → ℕ → List ℕ → List ℕ → MarkTurn
 elementTurn N t K far h came unmet M out =
     let p = placeOfHash firstEight t K h in
-    let check = bitXor (checkOf t K (part 4096 (length K) M)) h in
-    let cs = cond (sendsDone N came unmet) (done check ∷ []) [] in
     cond (entry (N .state) 5)
-    (cond (leb 4096 p && (ltb p 8192 && not (isMet (getD M p 0))))
-    (cond (isClosing N unmet && not (eqb far check))
-    (markTurn (aborted (refusalNumber Checksum) N) M out)
-    (markTurn (answered 0 (length (layouts cs)) 0 (withElement N came unmet)) (set M p 8) (over 0 (layouts cs) out)))
+    (cond (isUnmetAt M p)
+    (gainTurn N t K far h (isClosing N unmet) (sendsDone N came unmet) p M out)
     (markTurn (aborted (refusalNumber Breach) N) M out))
     (markTurn (aborted (refusalNumber OutOfTurn) N) M out)
 
@@ -140,9 +98,6 @@ pub record EndTurn : Type 0 where
 
 abbrev pub endTurn : Answer → List ℕ → List ℕ → EndTurn
 endTurn a R out = record { answer = a; records = R; out = out }
-
-abbrev pub closed : Numbers → ℕ → ℕ → Numbers
-closed N state went = numbered state 0 (N .size) (N .salt) (N .width) (N .swaps) went (N .demanded) (N .inquired)
 
 -- far is the 64 bytes of the checksum in the message
 unfoldable pub doneTurn : Numbers → List ℕ → List ℕ → List ℕ → List ℕ → ℕ → List ℕ → List ℕ → EndTurn
@@ -171,9 +126,6 @@ pub record OfferTurn : Type 0 where
 abbrev pub offerTurn′ : Answer → Stored → List ℕ → OfferTurn
 offerTurn′ a s out = record { answer = a; stored = s; out = out }
 
-abbrev pub withDemanded : Numbers → ℕ → Numbers
-withDemanded N n = numbered (N .state) 0 (N .size) (N .salt) (N .width) (N .swaps) (N .done) n (N .inquired)
-
 -- concerned: how many IDs are held or wanted
 unfoldable pub offerTurn : Numbers → List ℕ → List ℕ → List ℕ → List ℕ → ℕ → List ℕ → List ℕ → List ℕ → OfferTurn
 offerTurn N t K I hs concerned R M out =
@@ -190,19 +142,6 @@ offerTurn N t K I hs concerned R M out =
     (offerTurn′ (aborted (refusalNumber OutOfTurn) N) (stored R M) out)
 
 -- ---- slices
-
--- the entry of the grid, and in state 3 "only as first message since entry"
-unfoldable pub admitsSlice : Numbers → ℕ → Bool
-admitsSlice N kind = entry (N .state) kind && not (eqb (N .state) PASSIVE && not (eqb (N .first) 1))
-
-unfoldable pub isPlaced : Numbers → (size offset salt width : ℕ) → Bool
-isPlaced N size offset salt width =
-    cond (eqb (N .state) EXPECTING-LAST)
-    (eqb offset 2520 && (eqb size (N .size) && (eqb salt (N .salt) && eqb width (N .width))))
-    (eqb offset 0)
-
-abbrev pub slicedNumbers : Numbers → (size salt width : ℕ) → Numbers
-slicedNumbers N size salt width = numbered EXPECTING-LAST 0 size salt width (N .swaps) (N .done) (N .demanded) (N .inquired)
 
 -- the elements of ours marked offered, one after the other
 unfoldable pub markAll : List ℕ → List ℕ → List ℕ → List ℕ
@@ -221,9 +160,6 @@ pub record OpenTurn : Type 0 where
 
 abbrev pub openTurn′ : Answer → List ℕ → List ℕ → List ℕ → OpenTurn
 openTurn′ a M I out = record { answer = a; marks = M; inquired = I; out = out }
-
-abbrev pub openedNumbers : Numbers → (size salt went inquired : ℕ) → Numbers
-openedNumbers N size salt went inquired = numbered ACTIVE 0 size salt 0 (N .swaps) went (N .demanded) inquired
 
 unfoldable pub openTurn : Numbers → List ℕ → (size salt : ℕ) → List ℕ → List ℕ → List ℕ → List ℕ → List ℕ → OpenTurn
 openTurn N table size salt ours theirs M I out =
@@ -281,6 +217,10 @@ wiped size r = unread 0 (filled size (λ i. 𝟎) (r .columns)) (listedInto size
 
 abbrev pub kept : Read → Read
 kept r = untouched (r .columns) (r .ours) (r .theirs)
+
+-- the reading of a filter that a message's slice completes
+abbrev pub wholeRead : List ℕ → List ℕ → (size salt : ℕ) → Columns → List ℕ → List ℕ → Read
+wholeRead table message size salt cols o th = readingAt firstEight (hashesOf table) size salt (laid (content (exactlyOne message) message) cols) o th
 
 unfoldable pub readTurn : Numbers → List ℕ → (size salt : ℕ) → Read → List ℕ → List ℕ → List ℕ → LastTurn
 readTurn N table size salt r M I out =

@@ -33,7 +33,7 @@ pub(crate) fn ask_all(
         let id = bucket::bytes::number_at(message, 8 + 8 * i, 8);
         let p = crate::places::place_of(table, known, id);
         if crate::places::is_held(marks, p) {
-            if crate::places::is_asked(marks[p]) | (4096 <= m) {
+            if form::marks::is_asked(marks[p]) | (4096 <= m) {
                 return Gathered {
                     fine: false,
                     count: 0,
@@ -70,10 +70,10 @@ pub(crate) fn serve_all(
             return false;
         }
         let m = marks[p];
-        if !crate::places::is_offered(m) {
+        if !form::marks::is_offered(m) {
             return false;
         }
-        if crate::places::is_served(m) {
+        if form::marks::is_served(m) {
             return false;
         }
         marks[p] = m + 4;

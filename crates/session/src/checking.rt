@@ -7,7 +7,7 @@ ghost use lib.ListN.{length};
 ghost use Rattle.bucket.specs.Digits.{joined, packed};
 ghost use Rattle.bucket.specs.Lists.{part};
 ghost use Rattle.filter.specs.Table.{hashesOf};
-ghost use Rattle.session.specs.Memory.{isMet, marked};
+ghost use Rattle.ledger.specs.Memory.{isMet, marked};
 ghost use Rattle.session.specs.Moves.{checkOf};
 ghost use Rattle.session.specs.Ready.{Kept, Adds};
 
@@ -43,7 +43,7 @@ fn xor_met(acc: &mut [u8; 64], known: &[u8], marks: &[u8])
     let n = filter::table::count(known);
     let mut i: usize = 0;
     while i < n {
-        if crate::places::is_met(marks[4096 + i]) {
+        if form::marks::is_met(marks[4096 + i]) {
             xor_into(acc, known, 64 * i);
         }
         i += 1;

@@ -1,27 +1,27 @@
 // ELEMENT and DONE: what a session ends with.
 ghost use mathlib.Core.Path.{_≡_};
+ghost use mathlib.Core.Bool.{true, _||_};
 ghost use Prim.Native.Nat.{_+_, _*_, _≤_, _<_};
 ghost use lib.ListN.{length, take};
 ghost use Rattle.bucket.specs.Digits.{joined};
 ghost use Rattle.bucket.specs.Lists.{part};
 ghost use Rattle.filter.specs.Table.{hashesOf};
 ghost use Rattle.session.specs.Ready.{Kept};
-ghost use Rattle.session.specs.Turns.{markTurn, elementTurn, endTurn, doneTurn};
-use crate::numbers::ACTIVE;
-use crate::numbers::Answer;
-use crate::numbers::BREACH;
-use crate::numbers::CHECKSUM;
-use crate::numbers::CLOSING;
-use crate::numbers::FINISHED;
-use crate::numbers::Numbers;
-use crate::numbers::OUT_OF_TURN;
-use crate::numbers::PASSIVE;
-use crate::numbers::WAITING;
+ghost use Rattle.session.specs.Turns.{markTurn, gainTurn, elementTurn, endTurn, doneTurn};
+use ledger::numbers::ACTIVE;
+use ledger::numbers::Answer;
+use ledger::numbers::BREACH;
+use ledger::numbers::CHECKSUM;
+use ledger::numbers::CLOSING;
+use ledger::numbers::FINISHED;
+use ledger::numbers::Numbers;
+use ledger::numbers::OUT_OF_TURN;
+use ledger::numbers::PASSIVE;
+use ledger::numbers::WAITING;
 
 // Where the far checksum stands in the records.
 pub(crate) const FAR: usize = 262144;
 
-// The checksum is made only where it is compared or sent.
 pub(crate) fn on_element(
     numbers: Numbers,
     table: &[u8],
@@ -37,42 +37,61 @@ pub(crate) fn on_element(
     ensures { λ r. ⌜ markTurn r (now (marks .exit)) (now (out .exit))
         ≡ elementTurn numbers (hashesOf (now (table .entry))) (hashesOf (take (64 * numbers .demanded) (now (records .entry)))) (joined 8 (part 262144 64 (now (records .entry)))) (joined 8 (take 64 (now (hash .entry)))) came unmet (now (marks .entry)) (now (out .entry)) ⌝ }
 {
-    if !crate::grid::admits(numbers.state, crate::grid::ELEMENT) {
-        return crate::numbers::aborted(OUT_OF_TURN, numbers);
+    if !form::grid::admits(numbers.state, form::grid::ELEMENT) {
+        return form::numbers::aborted(OUT_OF_TURN, numbers);
     }
     let e = 64 * numbers.demanded as usize;
-    let p = crate::places::place_of_hash(table, &records[..e], hash, 0);
-    if p < crate::places::RECORDS {
-        return crate::numbers::aborted(BREACH, numbers);
-    }
+    let p = crate::places::unmet_place(table, &records[..e], marks, hash);
     if crate::places::NOWHERE <= p {
-        return crate::numbers::aborted(BREACH, numbers);
-    }
-    if crate::places::is_met(marks[p]) {
-        return crate::numbers::aborted(BREACH, numbers);
+        return form::numbers::aborted(BREACH, numbers);
     }
     let state = numbers.state;
     let closing = ((state == CLOSING) | (state == WAITING)) & (unmet == 1);
     let sends = ((state == ACTIVE) & (came + 1 == numbers.inquired as usize))
         | ((state == WAITING) & (unmet == 1));
-    if !(closing | sends) {
-        marks[p] = 8;
-        return crate::numbers::answered(0, 0, crate::numbers::onward(numbers));
-    }
-    let mut check = crate::checking::checksum(table, &records[..e], marks);
-    crate::checking::xor_into(&mut check, hash, 0);
-    if closing {
-        if !crate::places::same_hash(records, FAR, &check, 0) {
-            return crate::numbers::aborted(CHECKSUM, numbers);
-        }
+    if closing | sends {
+        return last_element(numbers, table, records, marks, hash, out, p, closing, sends);
     }
     marks[p] = 8;
-    let next = if closing { FINISHED } else { state };
-    if sends {
-        let sent = crate::sending::send_done(&check, out, 0);
-        return crate::numbers::answered(sent, 0, crate::numbers::closed(numbers, next, 1));
+    form::numbers::answered(0, 0, form::numbers::onward(numbers))
+}
+
+// An element that the session closes with, or that DONE is sent after: only here the checksum is made.
+fn last_element(
+    numbers: Numbers,
+    table: &[u8],
+    records: &[u8],
+    marks: &mut [u8],
+    hash: &[u8],
+    out: &mut [u8],
+    p: usize,
+    closing: bool,
+    sends: bool,
+) -> Answer
+    requires { ⌜ Kept (now table) (take (64 * numbers .demanded) (now records)) (now marks) × (262208 ≤ length (now records)) × (numbers .demanded ≤ 4096)
+        × (64 ≤ length (now hash)) × (295008 ≤ length (now out)) × (p < 8192) × (closing || sends ≡ true) ⌝ }
+    ensures { λ r. ⌜ markTurn r (now (marks .exit)) (now (out .exit))
+        ≡ gainTurn numbers (hashesOf (now (table .entry))) (hashesOf (take (64 * numbers .demanded) (now (records .entry)))) (joined 8 (part 262144 64 (now (records .entry)))) (joined 8 (take 64 (now (hash .entry)))) closing sends p (now (marks .entry)) (now (out .entry)) ⌝ }
+{
+    let e = 64 * numbers.demanded as usize;
+    let mut check = crate::checking::checksum(table, &records[..e], marks);
+    crate::checking::xor_into(&mut check, hash, 0);
+    if closing & !crate::places::same_hash(records, FAR, &check, 0) {
+        return form::numbers::aborted(CHECKSUM, numbers);
     }
-    crate::numbers::answered(0, 0, crate::numbers::closed(numbers, next, numbers.done))
+    marks[p] = 8;
+    if !sends {
+        return form::numbers::answered(
+            0,
+            0,
+            form::numbers::closed(numbers, FINISHED, numbers.done),
+        );
+    }
+    let sent = crate::sending::send_done(&check, out, 0);
+    if closing {
+        return form::numbers::answered(sent, 0, form::numbers::closed(numbers, FINISHED, 1));
+    }
+    form::numbers::answered(sent, 0, form::numbers::closed(numbers, numbers.state, 1))
 }
 
 pub(crate) fn on_done(
@@ -90,29 +109,25 @@ pub(crate) fn on_done(
         ≡ doneTurn numbers (hashesOf (now (table .entry))) (hashesOf (take (64 * numbers .demanded) (now (records .entry)))) (now (marks .entry)) (part 4 64 (now (message .entry))) unmet (now (records .entry)) (now (out .entry)) ⌝ }
 {
     let state = numbers.state;
-    if !crate::grid::admits(state, crate::grid::DONE) {
-        return crate::numbers::aborted(OUT_OF_TURN, numbers);
+    if !form::grid::admits(state, form::grid::DONE) {
+        return form::numbers::aborted(OUT_OF_TURN, numbers);
     }
     if (state == ACTIVE) & !(numbers.done == 1) {
-        return crate::numbers::aborted(OUT_OF_TURN, numbers);
+        return form::numbers::aborted(OUT_OF_TURN, numbers);
     }
     if unmet != 0 {
         crate::copying::copy(message, 4, 64, records, FAR);
         let next = if state == ACTIVE { CLOSING } else { WAITING };
-        return crate::numbers::answered(0, 0, crate::numbers::closed(numbers, next, numbers.done));
+        return form::numbers::answered(0, 0, form::numbers::closed(numbers, next, numbers.done));
     }
     let e = 64 * numbers.demanded as usize;
     let check = crate::checking::checksum(table, &records[..e], marks);
     if !crate::places::same_hash(message, 4, &check, 0) {
-        return crate::numbers::aborted(CHECKSUM, numbers);
+        return form::numbers::aborted(CHECKSUM, numbers);
     }
     if state == PASSIVE {
         let sent = crate::sending::send_done(&check, out, 0);
-        return crate::numbers::answered(sent, 0, crate::numbers::closed(numbers, FINISHED, 1));
+        return form::numbers::answered(sent, 0, form::numbers::closed(numbers, FINISHED, 1));
     }
-    crate::numbers::answered(
-        0,
-        0,
-        crate::numbers::closed(numbers, FINISHED, numbers.done),
-    )
+    form::numbers::answered(0, 0, form::numbers::closed(numbers, FINISHED, numbers.done))
 }

@@ -1,6 +1,7 @@
 // IBF and IBF LAST: slices laid, a whole filter read, and what follows from how the reading ended.
 ghost use mathlib.Core.Path.{_≡_};
 ghost use mathlib.Core.Bool.{true, false, cond};
+ghost use mathlib.Core.List.{_++_};
 ghost use Prim.Native.Nat.{_+_, _≤_, _<_};
 ghost use lib.Dec.{ltb, leb};
 ghost use lib.ListN.{length, take};
@@ -12,19 +13,21 @@ ghost use Rattle.filter.specs.Answers.{refusalNumber, answerOf};
 ghost use Rattle.filter.specs.Table.{firstEight, hashesOf, idsOf};
 ghost use Rattle.message.specs.Reading.{content};
 ghost use Rattle.message.specs.Walking.{exactlyOne};
-ghost use Rattle.session.specs.Ready.{Opens, Reads, Lays, fated, Fated};
-ghost use Rattle.session.specs.Turns.{markAll, hashesAt, openTurn, openTurn′, sliceTurn, sliceTurn′, lastTurn, lastTurn′, untouched};
-use crate::numbers::Answer;
-use crate::numbers::FALSE_READING;
-use crate::numbers::FORM;
-use crate::numbers::LIMIT;
-use crate::numbers::MALFORMED;
-use crate::numbers::Numbers;
-use crate::numbers::OUT_OF_TURN;
-use crate::numbers::RANGE;
-use crate::numbers::ROOM;
-use crate::numbers::SWAPS;
+ghost use Rattle.message.specs.Writing.{inquiriesOf, offersOf};
+ghost use Rattle.session.specs.Moves.{insertedAll};
+ghost use Rattle.session.specs.Ready.{Opens, Sent, Reads, Lays, Whole, Ended, fated, Fated};
+ghost use Rattle.session.specs.Turns.{markAll, hashesAt, openTurn, openTurn′, sliceTurn, sliceTurn′, lastTurn, lastTurn′, untouched, wholeRead};
 use filter::answers::Reading;
+use ledger::numbers::Answer;
+use ledger::numbers::FALSE_READING;
+use ledger::numbers::FORM;
+use ledger::numbers::LIMIT;
+use ledger::numbers::MALFORMED;
+use ledger::numbers::Numbers;
+use ledger::numbers::OUT_OF_TURN;
+use ledger::numbers::RANGE;
+use ledger::numbers::ROOM;
+use ledger::numbers::SWAPS;
 
 // How a reading ended, in numbers: what it refuses or 0, 9 and 10 among it; whether it is complete; and the lengths of the lists.
 pub(crate) struct Fate {
@@ -50,14 +53,14 @@ pub(crate) fn on_slice(
     ensures { λ r. ⌜ sliceTurn′ r (columns (now (ids .exit)) (now (hashes .exit)) (now (counts .exit)))
         ≡ sliceTurn numbers (content (exactlyOne (now (message .entry))) (now (message .entry))) size offset salt width (columns (now (ids .entry)) (now (hashes .entry)) (now (counts .entry))) ⌝ }
 {
-    if !crate::grid::admits_slice(numbers, crate::grid::IBF) {
-        return crate::numbers::aborted(OUT_OF_TURN, numbers);
+    if !form::grid::admits_slice(numbers, form::grid::IBF) {
+        return form::numbers::aborted(OUT_OF_TURN, numbers);
     }
-    if !crate::grid::is_placed(numbers, size, offset, salt, width) {
-        return crate::numbers::aborted(MALFORMED, numbers);
+    if !form::grid::is_placed(numbers, size, offset, salt, width) {
+        return form::numbers::aborted(MALFORMED, numbers);
     }
     message::laying::lay(message, ids, hashes, counts);
-    crate::numbers::answered(0, 0, crate::numbers::sliced(numbers, size, salt, width))
+    form::numbers::answered(0, 0, form::numbers::sliced(numbers, size, salt, width))
 }
 
 // The slice that completes a filter.
@@ -82,18 +85,26 @@ pub(crate) fn on_last(
     ensures { λ r. ⌜ lastTurn′ r (now (marks .exit)) (now (inquired .exit)) (untouched (columns (now (ids .exit)) (now (hashes .exit)) (now (counts .exit))) (now (ours .exit)) (now (theirs .exit))) (now (out .exit))
         ≡ lastTurn numbers (now (table .entry)) (content (exactlyOne (now (message .entry))) (now (message .entry))) size offset salt width (columns (now (ids .entry)) (now (hashes .entry)) (now (counts .entry))) (now (ours .entry)) (now (theirs .entry)) (now (marks .entry)) (now (inquired .entry)) (now (out .entry)) ⌝ }
 {
-    if !crate::grid::admits_slice(numbers, crate::grid::LAST) {
-        return crate::numbers::aborted(OUT_OF_TURN, numbers);
+    if !form::grid::admits_slice(numbers, form::grid::LAST) {
+        return form::numbers::aborted(OUT_OF_TURN, numbers);
     }
-    if !crate::grid::is_placed(numbers, size, offset, salt, width) {
-        return crate::numbers::aborted(MALFORMED, numbers);
+    if !form::grid::is_placed(numbers, size, offset, salt, width) {
+        return form::numbers::aborted(MALFORMED, numbers);
     }
-    message::laying::lay(message, ids, hashes, counts);
-    let r = filter::reading::read(table, ids, hashes, counts, ours, theirs, size, salt);
-    let f = fate_of(r, filter::table::count(table), numbers.swaps);
+    let f = read_whole(
+        numbers.swaps,
+        table,
+        ids,
+        hashes,
+        counts,
+        ours,
+        theirs,
+        message,
+        size,
+        salt,
+    );
     if (f.refusal == SWAPS) | (f.refusal == LIMIT) {
-        filter::reading::clear(ids, hashes, counts, ours, theirs, size);
-        return crate::numbers::aborted(f.refusal, numbers);
+        return form::numbers::aborted(f.refusal, numbers);
     }
     if f.complete {
         return open(
@@ -111,13 +122,40 @@ pub(crate) fn on_last(
         );
     }
     let next = crate::swapping::swapped(numbers, size, salt);
-    let sent = crate::sending::send_filter(table, next.size, next.salt, out);
+    let sent = form::sending::send_filter(table, next.size, next.salt, out);
     Answer {
         refusal: f.refusal,
         sent: sent,
         due: 0,
         next: next,
     }
+}
+
+// The last slice laid and the filter read; columns and lists are cleared where the session may not go on.
+fn read_whole(
+    swaps: u32,
+    table: &[u8],
+    ids: &mut [u64],
+    hashes: &mut [u32],
+    counts: &mut [i64],
+    ours: &mut [u64],
+    theirs: &mut [u64],
+    message: &[u8],
+    size: u32,
+    salt: u32,
+) -> Fate
+    requires { ⌜ Whole (now table) (now message) size salt (columns (now ids) (now hashes) (now counts)) (now ours) (now theirs) ⌝ }
+    ensures { λ f. ⌜ Ended (wholeRead (now (table .entry)) (now (message .entry)) size salt (columns (now (ids .entry)) (now (hashes .entry)) (now (counts .entry))) (now (ours .entry)) (now (theirs .entry))) (now (table .entry)) size swaps f
+        (untouched (columns (now (ids .exit)) (now (hashes .exit)) (now (counts .exit))) (now (ours .exit)) (now (theirs .exit))) ⌝ }
+{
+    message::laying::lay(message, ids, hashes, counts);
+    let r = filter::reading::read(table, ids, hashes, counts, ours, theirs, size, salt);
+    let f = fate_of(r, filter::table::count(table), swaps);
+    if (f.refusal == SWAPS) | (f.refusal == LIMIT) {
+        filter::reading::clear(ids, hashes, counts, ours, theirs, size);
+        return f;
+    }
+    f
 }
 
 // By how a reading ended: its refusal, or 10 or 9 where it may not go on.
@@ -193,22 +231,43 @@ fn open(
     ensures { λ r. ⌜ openTurn′ r (now (marks .exit)) (now (inquired .exit)) (now (out .exit))
         ≡ openTurn numbers (now (table .entry)) size salt (take a (now (ours .entry))) (take b (now (theirs .entry))) (now (marks .entry)) (now (inquired .entry)) (now (out .entry)) ⌝ }
 {
+    let sent = tell(table, marks, inquired, ours, theirs, out, salt, a, b);
+    if b == 0 {
+        let check = crate::checking::checksum(table, &table[..0], marks);
+        let end = crate::sending::send_done(&check, out, sent);
+        return form::numbers::answered(end, 0, form::numbers::opened(numbers, size, salt, 1, 0));
+    }
+    form::numbers::answered(
+        sent,
+        0,
+        form::numbers::opened(numbers, size, salt, 0, b as u32),
+    )
+}
+
+// The elements of ours are marked offered and theirs put among the inquired; INQUIRY and OFFER go out. Answers where these messages end.
+fn tell(
+    table: &[u8],
+    marks: &mut [u8],
+    inquired: &mut [u64],
+    ours: &[u64],
+    theirs: &[u64],
+    out: &mut [u8],
+    salt: u32,
+    a: usize,
+    b: usize,
+) -> usize
+    requires { ⌜ Opens (now table) (take a (now ours)) (now marks) × (a ≤ length (now ours)) × (b ≤ length (now theirs)) × (a ≤ 4096) × (b ≤ 4096) × (salt < 64)
+        × (4096 ≤ length (now inquired)) × (295008 ≤ length (now out)) ⌝ }
+    ensures { λ r. ⌜ (now (marks .exit) ≡ markAll (idsOf firstEight (now (table .entry))) (take a (now (ours .entry))) (now (marks .entry)))
+        × (now (inquired .exit) ≡ insertedAll 0 (take b (now (theirs .entry))) (now (inquired .entry)))
+        × Sent (inquiriesOf salt (take b (now (theirs .entry))) ++ offersOf (hashesAt (hashesOf (now (table .entry))) (idsOf firstEight (now (table .entry))) (take a (now (ours .entry))))) (now (out .entry)) (now (out .exit)) r ⌝ }
+{
     let mut hashes = [0u8; 262144];
     offer_all(table, marks, ours, a, &mut hashes);
     crate::inserting::insert_ids(theirs, b, inquired);
     let next = crate::sending::send_inquiries(&theirs[..b], salt, out, 0);
     let e = 64 * a;
-    let sent = crate::sending::send_offers(&hashes[..e], out, next);
-    if b == 0 {
-        let check = crate::checking::checksum(table, &table[..0], marks);
-        let end = crate::sending::send_done(&check, out, sent);
-        return crate::numbers::answered(end, 0, crate::numbers::opened(numbers, size, salt, 1, 0));
-    }
-    crate::numbers::answered(
-        sent,
-        0,
-        crate::numbers::opened(numbers, size, salt, 0, b as u32),
-    )
+    crate::sending::send_offers(&hashes[..e], out, next)
 }
 
 // The first a elements of a list of IDs of the table marked offered, and their hashes gathered in order.

@@ -1,19 +1,14 @@
-// The session: one step of the protocol, and the start of each side. The layer above `message`.
-// Every public function answers every input; the definitions that the contracts cite stand in specs/.
+// The session: one step of the protocol. The layer above `form`, which has the start of each side.
+// The step answers every input; the definitions that its contract cites stand in `ledger`.
 mod asking;
 mod checking;
 mod copying;
 mod ends;
 mod filters;
-mod grid;
 mod inserting;
-mod judging;
 mod lists;
-pub mod numbers;
 mod offering;
 mod places;
 mod sending;
-pub mod starting;
 pub mod stepping;
 mod swapping;
-mod tallying;

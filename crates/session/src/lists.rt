@@ -8,12 +8,12 @@ ghost use Rattle.filter.specs.Table.{hashesOf};
 ghost use Rattle.session.specs.Moves.{stored};
 ghost use Rattle.session.specs.Ready.{Kept};
 ghost use Rattle.session.specs.Turns.{markTurn, inquiryTurn, demandTurn, offerTurn, offerTurn′};
-use crate::numbers::ACTIVE;
-use crate::numbers::Answer;
-use crate::numbers::BREACH;
-use crate::numbers::LIMIT;
-use crate::numbers::Numbers;
-use crate::numbers::OUT_OF_TURN;
+use ledger::numbers::ACTIVE;
+use ledger::numbers::Answer;
+use ledger::numbers::BREACH;
+use ledger::numbers::LIMIT;
+use ledger::numbers::Numbers;
+use ledger::numbers::OUT_OF_TURN;
 
 pub(crate) fn on_inquiry(
     numbers: Numbers,
@@ -30,11 +30,11 @@ pub(crate) fn on_inquiry(
     ensures { λ r. ⌜ markTurn r (now (marks .exit)) (now (out .exit))
         ≡ inquiryTurn numbers (hashesOf (now (table .entry))) (hashesOf (take (64 * numbers .demanded) (now (records .entry)))) salt (unpacked 64 n (part 8 (8 * n) (now (message .entry)))) (now (marks .entry)) (now (out .entry)) ⌝ }
 {
-    if !crate::grid::admits(numbers.state, crate::grid::INQUIRY) {
-        return crate::numbers::aborted(OUT_OF_TURN, numbers);
+    if !form::grid::admits(numbers.state, form::grid::INQUIRY) {
+        return form::numbers::aborted(OUT_OF_TURN, numbers);
     }
     if salt != numbers.salt {
-        return crate::numbers::aborted(BREACH, numbers);
+        return form::numbers::aborted(BREACH, numbers);
     }
     let e = 64 * numbers.demanded as usize;
     let mut work = [0u8; 8192];
@@ -42,12 +42,12 @@ pub(crate) fn on_inquiry(
     let mut hashes = [0u8; 262144];
     let g = crate::asking::ask_all(table, &records[..e], &mut work, message, n, &mut hashes);
     if !g.fine {
-        return crate::numbers::aborted(BREACH, numbers);
+        return form::numbers::aborted(BREACH, numbers);
     }
     crate::copying::copy(&work, 0, 8192, marks, 0);
     let to = 64 * g.count;
     let sent = crate::sending::send_offers(&hashes[..to], out, 0);
-    crate::numbers::answered(sent, 0, crate::numbers::onward(numbers))
+    form::numbers::answered(sent, 0, form::numbers::onward(numbers))
 }
 
 pub(crate) fn on_demand(
@@ -64,18 +64,18 @@ pub(crate) fn on_demand(
     ensures { λ r. ⌜ markTurn r (now (marks .exit)) (now (out .exit))
         ≡ demandTurn numbers (hashesOf (now (table .entry))) (hashesOf (take (64 * numbers .demanded) (now (records .entry)))) (unpacked 512 n (part 4 (64 * n) (now (message .entry)))) (now (marks .entry)) (now (out .entry)) ⌝ }
 {
-    if !crate::grid::admits(numbers.state, crate::grid::DEMAND) {
-        return crate::numbers::aborted(OUT_OF_TURN, numbers);
+    if !form::grid::admits(numbers.state, form::grid::DEMAND) {
+        return form::numbers::aborted(OUT_OF_TURN, numbers);
     }
     let e = 64 * numbers.demanded as usize;
     let mut work = [0u8; 8192];
     crate::copying::copy(marks, 0, 8192, &mut work, 0);
     if !crate::asking::serve_all(table, &records[..e], &mut work, message, n) {
-        return crate::numbers::aborted(BREACH, numbers);
+        return form::numbers::aborted(BREACH, numbers);
     }
     crate::copying::copy(&work, 0, 8192, marks, 0);
     crate::copying::copy(message, 4, 64 * n, out, 0);
-    crate::numbers::answered(0, n, crate::numbers::onward(numbers))
+    form::numbers::answered(0, n, form::numbers::onward(numbers))
 }
 
 pub(crate) fn on_offer(
@@ -95,8 +95,8 @@ pub(crate) fn on_offer(
     ensures { λ r. ⌜ offerTurn′ r (stored (now (records .exit)) (now (marks .exit))) (now (out .exit))
         ≡ offerTurn numbers (hashesOf (now (table .entry))) (hashesOf (take (64 * numbers .demanded) (now (records .entry)))) (take (numbers .inquired) (now (inquired .entry))) (unpacked 512 n (part 4 (64 * n) (now (message .entry)))) concerned (now (records .entry)) (now (marks .entry)) (now (out .entry)) ⌝ }
 {
-    if !crate::grid::admits(numbers.state, crate::grid::OFFER) {
-        return crate::numbers::aborted(OUT_OF_TURN, numbers);
+    if !form::grid::admits(numbers.state, form::grid::OFFER) {
+        return form::numbers::aborted(OUT_OF_TURN, numbers);
     }
     let demanded = numbers.demanded as usize;
     let k = numbers.inquired as usize;
@@ -116,19 +116,19 @@ pub(crate) fn on_offer(
         &mut hashes,
     );
     if !g.fine {
-        return crate::numbers::aborted(BREACH, numbers);
+        return form::numbers::aborted(BREACH, numbers);
     }
     let m = g.count;
     let more = crate::offering::count_extra(&hashes, m, inquired, k);
     if (4096 < concerned + more) | (4096 < demanded + m) {
-        return crate::numbers::aborted(LIMIT, numbers);
+        return form::numbers::aborted(LIMIT, numbers);
     }
     crate::offering::store_all(records, marks, demanded, &hashes, m);
     let to = 64 * m;
     let sent = crate::sending::send_demands(&hashes[..to], out, 0);
-    crate::numbers::answered(
+    form::numbers::answered(
         sent,
         0,
-        crate::numbers::with_demanded(numbers, (demanded + m) as u32),
+        form::numbers::with_demanded(numbers, (demanded + m) as u32),
     )
 }

@@ -2,43 +2,18 @@
 ghost use mathlib.Core.Path.{_≡_};
 ghost use Prim.Native.Nat.{_+_, _≤_};
 ghost use lib.Dec.{eqb};
-ghost use lib.ListN.{length};
+ghost use lib.ListN.{length, take};
 ghost use Rattle.bucket.specs.Digits.{joined, groups};
 ghost use Rattle.bucket.specs.Lists.{over, part};
 ghost use Rattle.filter.specs.Table.{firstEight, hashesOf, idsOf};
-ghost use Rattle.session.specs.Memory.{isAsked, isOffered, isServed, isMet};
-ghost use Rattle.session.specs.Moves.{placeOf, isHeldAt, hashAtPlace, placeOfHash};
-ghost use Rattle.session.specs.Ready.{Placed};
+ghost use Rattle.ledger.specs.Memory.{isAsked, isOffered, isServed, isMet};
+ghost use Rattle.session.specs.Moves.{placeOf, isHeldAt, hashAtPlace, placeOfHash, unmetAt};
+ghost use Rattle.session.specs.Ready.{Placed, Kept};
 
 // Where the marks of the demanded hashes begin, and where all end.
 pub(crate) const RECORDS: usize = 4096;
 
 pub(crate) const NOWHERE: usize = 8192;
-
-// The bits of a mark.
-pub(crate) fn is_asked(m: u8) -> bool
-    ensures { λ r. ⌜ r ≡ isAsked m ⌝ }
-{
-    m % 2 == 1
-}
-
-pub(crate) fn is_offered(m: u8) -> bool
-    ensures { λ r. ⌜ r ≡ isOffered m ⌝ }
-{
-    m / 2 % 2 == 1
-}
-
-pub(crate) fn is_served(m: u8) -> bool
-    ensures { λ r. ⌜ r ≡ isServed m ⌝ }
-{
-    m / 4 % 2 == 1
-}
-
-pub(crate) fn is_met(m: u8) -> bool
-    ensures { λ r. ⌜ r ≡ isMet m ⌝ }
-{
-    m / 8 % 2 == 1
-}
 
 // The place of the element with an ID.
 pub(crate) fn place_of(table: &[u8], known: &[u8], id: u64) -> usize
@@ -68,7 +43,7 @@ pub(crate) fn is_held(marks: &[u8], p: usize) -> bool
         return true;
     }
     if p < NOWHERE {
-        return is_met(marks[p]);
+        return form::marks::is_met(marks[p]);
     }
     false
 }
@@ -112,6 +87,21 @@ pub(crate) fn place_of_hash(table: &[u8], known: &[u8], h: &[u8], at: usize) -> 
         }
     }
     NOWHERE
+}
+
+// The place of the demanded hash that is in 64 bytes and unmet.
+pub(crate) fn unmet_place(table: &[u8], known: &[u8], marks: &[u8], hash: &[u8]) -> usize
+    requires { ⌜ Kept (now table) (now known) (now marks) × (length (now known) ≤ 262144) × (64 ≤ length (now hash)) ⌝ }
+    ensures { λ r. ⌜ r ≡ unmetAt (now (marks .entry)) (placeOfHash firstEight (hashesOf (now (table .entry))) (hashesOf (now (known .entry))) (joined 8 (take 64 (now (hash .entry))))) ⌝ }
+{
+    let p = place_of_hash(table, known, hash, 0);
+    if (p < RECORDS) | (NOWHERE <= p) {
+        return NOWHERE;
+    }
+    if form::marks::is_met(marks[p]) {
+        return NOWHERE;
+    }
+    p
 }
 
 // The hash at a place, copied to another.

@@ -1,16 +1,13 @@
 // Messages written where there is room for them: each answers the position behind what it wrote.
 ghost use mathlib.Core.Path.{_≡_};
-ghost use mathlib.Core.Bool.{true};
 ghost use mathlib.Core.List.{[], _∷_};
 ghost use Prim.Native.Nat.{_+_, _≤_, _<_, _%_};
 ghost use lib.ListN.{length, take};
 ghost use Rattle.bucket.specs.Digits.{joined};
 ghost use Rattle.bucket.specs.Lists.{over};
-ghost use Rattle.filter.specs.Calls.{inRange};
-ghost use Rattle.filter.specs.Table.{firstEight, hashesOf, idsOf, isTable};
+ghost use Rattle.filter.specs.Table.{hashesOf};
 ghost use Rattle.message.specs.Layout.{done};
 ghost use Rattle.message.specs.Writing.{layouts, inquiriesOf, offersOf, demandsOf};
-ghost use Rattle.session.specs.Session.{ownFilter};
 use message::kinds::Wrote;
 
 pub(crate) fn send_inquiries(ids: &[u64], salt: u32, out: &mut [u8], at: usize) -> usize
@@ -49,22 +46,6 @@ pub(crate) fn send_done(check: &[u8], out: &mut [u8], at: usize) -> usize
 {
     let Wrote::To { next } = message::writing::done(check, out, at) else {
         return at;
-    };
-    next
-}
-
-// The filter of a table, built in columns of its own.
-pub(crate) fn send_filter(table: &[u8], size: u32, salt: u32, out: &mut [u8]) -> usize
-    requires { ⌜ (isTable firstEight (now table) ≡ true) × (inRange size salt ≡ true) × (65568 ≤ length (now out)) ⌝ }
-    ensures { λ r. ⌜ (r ≡ length (layouts (ownFilter (idsOf firstEight (now (table .entry))) size salt))) × (now (out .exit) ≡ over 0 (layouts (ownFilter (idsOf firstEight (now (table .entry))) size salt)) (now (out .entry))) ⌝ }
-{
-    let mut ids = [0u64; 4096];
-    let mut hashes = [0u32; 4096];
-    let mut counts = [0i64; 4096];
-    filter::building::build(table, &mut ids, &mut hashes, &mut counts, size, salt);
-    let Wrote::To { next } = message::filters::filter(&ids, &hashes, &counts, size, salt, out, 0)
-    else {
-        return 0;
     };
     next
 }

@@ -3,16 +3,15 @@ ghost use mathlib.Core.Path.{_≡_};
 ghost use Rattle.bucket.specs.Columns.{columns};
 ghost use Rattle.filter.specs.Table.{firstEight};
 ghost use Rattle.message.specs.Walking.{exactlyOne};
-ghost use Rattle.session.specs.Calls.{given, left, stepCall};
-ghost use Rattle.session.specs.Judged.{numbersFit, frontBy, ledgerRooms, otherRooms, InForm, ledgerTurn, ledgerTurn′};
-use crate::numbers::Answer;
-use crate::numbers::EXPECTING_LAST;
-use crate::numbers::FORM;
-use crate::numbers::MALFORMED;
-use crate::numbers::Numbers;
-use crate::numbers::OUT_OF_TURN;
-use crate::numbers::ROOM;
-use crate::tallying::Tally;
+ghost use Rattle.ledger.specs.Calls.{given, left, stepCall};
+ghost use Rattle.session.specs.Judged.{InForm, ledgerTurn, ledgerTurn′};
+use form::tallying::Tally;
+use ledger::numbers::Answer;
+use ledger::numbers::FORM;
+use ledger::numbers::MALFORMED;
+use ledger::numbers::Numbers;
+use ledger::numbers::OUT_OF_TURN;
+use ledger::numbers::ROOM;
 use message::kinds::Message;
 
 // Takes one message in a state, and answers the next state and what is to be sent. Every slice is lent and comes back; specs/Calls says what each
@@ -35,17 +34,14 @@ pub fn step(
     ensures { λ r. ⌜ left r (now (records .exit)) (now (marks .exit)) (now (inquired .exit)) (columns (now (ids .exit)) (now (hashes .exit)) (now (counts .exit))) (now (ours .exit)) (now (theirs .exit)) (now (out .exit))
         ≡ stepCall firstEight (given numbers (now (table .entry)) (now (records .entry)) (now (marks .entry)) (now (inquired .entry)) (columns (now (ids .entry)) (now (hashes .entry)) (now (counts .entry))) (now (ours .entry)) (now (theirs .entry)) (now (hash .entry)) (now (message .entry)) (now (out .entry))) ⌝ }
 {
-    if !is_good_front(numbers, table, counts) {
-        return crate::numbers::refused(FORM, numbers);
-    }
-    if !has_ledger_room(records.len(), marks.len(), inquired.len()) {
-        return crate::numbers::refused(ROOM, numbers);
-    }
-    let tally = crate::tallying::judge_ledger(numbers, table, records, marks, inquired);
+    let tally = form::tallying::judge(numbers, table, records, marks, inquired, counts);
     if !tally.good {
-        return crate::numbers::refused(FORM, numbers);
+        return form::numbers::refused(FORM, numbers);
     }
-    if !has_other_room(
+    if !form::rooms::has_room(
+        records.len(),
+        marks.len(),
+        inquired.len(),
         ids.len(),
         hashes.len(),
         counts.len(),
@@ -54,10 +50,10 @@ pub fn step(
         hash.len(),
         out.len(),
     ) {
-        return crate::numbers::refused(ROOM, numbers);
+        return form::numbers::refused(ROOM, numbers);
     }
     if 5 < numbers.state {
-        return crate::numbers::refused(OUT_OF_TURN, numbers);
+        return form::numbers::refused(OUT_OF_TURN, numbers);
     }
     match message::reading::read(message) {
         Message::Ibf {
@@ -162,54 +158,6 @@ fn on_ledger(
             let unmet = tally.unmet;
             crate::ends::on_done(numbers, table, records, marks, message, out, unmet)
         }
-        _ => crate::numbers::aborted(MALFORMED, numbers),
+        _ => form::numbers::aborted(MALFORMED, numbers),
     }
-}
-
-// The table, the numbers, and in state 1 the counts laid.
-fn is_good_front(numbers: Numbers, table: &[u8], counts: &[i64]) -> bool
-    ensures { λ r. ⌜ r ≡ frontBy numbers (now (table .entry)) (now (counts .entry)) ⌝ }
-{
-    if !filter::table::is_table(table) {
-        return false;
-    }
-    if !are_numbers(numbers) {
-        return false;
-    }
-    if numbers.state == EXPECTING_LAST {
-        return filter::forms::are_counts(counts, 2520);
-    }
-    true
-}
-
-fn are_numbers(n: Numbers) -> bool
-    ensures { λ r. ⌜ r ≡ numbersFit n ⌝ }
-{
-    (n.first <= 1)
-        & ((n.done <= 1)
-            & ((n.demanded <= 4096)
-                & ((n.inquired <= 4096)
-                    & ((n.state < 8)
-                        & ((n.swaps <= 16) & filter::forms::in_range(n.size, n.salt))))))
-}
-
-fn has_ledger_room(records: usize, marks: usize, inquired: usize) -> bool
-    ensures { λ r. ⌜ r ≡ ledgerRooms records marks inquired ⌝ }
-{
-    (262208 <= records) & ((8192 <= marks) & (4096 <= inquired))
-}
-
-fn has_other_room(
-    ids: usize,
-    hashes: usize,
-    counts: usize,
-    ours: usize,
-    theirs: usize,
-    hash: usize,
-    out: usize,
-) -> bool
-    ensures { λ r. ⌜ r ≡ otherRooms ids hashes counts ours theirs hash out ⌝ }
-{
-    ((4096 <= ids) & ((4096 <= hashes) & (4096 <= counts)))
-        & ((4096 <= ours) & ((4096 <= theirs) & ((64 <= hash) & (295008 <= out))))
 }

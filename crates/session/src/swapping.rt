@@ -1,10 +1,10 @@
 // The numbers after a swap.
 ghost use mathlib.Core.Path.{_≡_};
 ghost use Prim.Native.Nat.{_≤_, _<_};
-ghost use Rattle.session.specs.Session.{nextSize, nextSalt};
+ghost use Rattle.ledger.specs.Session.{nextSize, nextSalt};
 ghost use Rattle.session.specs.Turns.{swappedNumbers};
-use crate::numbers::Numbers;
-use crate::numbers::PASSIVE;
+use ledger::numbers::Numbers;
+use ledger::numbers::PASSIVE;
 
 // Own filter due at salt + 1 (63 goes to 0) and twice the size, at most 4,096.
 pub(crate) fn swapped(mut numbers: Numbers, size: u32, salt: u32) -> Numbers

@@ -3,16 +3,16 @@ ghost use mathlib.Core.Path.{_≡_};
 ghost use mathlib.Core.List.{[]};
 ghost use Rattle.bucket.specs.Columns.{columns};
 ghost use Rattle.filter.specs.Table.{firstEight};
-ghost use Rattle.session.specs.Calls.{given, left, starting, startReceiver, startSender, stepCall};
-use session::numbers::Answer;
-use session::numbers::Numbers;
+ghost use Rattle.ledger.specs.Calls.{given, left, starting, startReceiver, startSender, stepCall};
+use ledger::numbers::Answer;
+use ledger::numbers::Numbers;
 
 // The receiver of a filter.
 #[no_mangle]
 pub extern "C" fn tandawire_start_receiver(table: &[u8], marks: &mut [u8]) -> Answer
     ensures { λ r. ⌜ starting r (now (marks .exit)) [] ≡ startReceiver firstEight (now (table .entry)) (now (marks .entry)) ⌝ }
 {
-    session::starting::start_receiver(table, marks)
+    form::starting::start_receiver(table, marks)
 }
 
 // The sender of a filter.
@@ -26,7 +26,7 @@ pub extern "C" fn tandawire_start_sender(
 ) -> Answer
     ensures { λ r. ⌜ starting r (now (marks .exit)) (now (out .exit)) ≡ startSender firstEight size salt (now (table .entry)) (now (marks .entry)) (now (out .entry)) ⌝ }
 {
-    session::starting::start_sender(table, size, salt, marks, out)
+    form::starting::start_sender(table, size, salt, marks, out)
 }
 
 // One message taken.

@@ -133,29 +133,6 @@ pub ask-all-spec : {M : Type 1} → statement M
 ask-all-spec =
     tie.close
     (tie.spec
-    Inv-loop
-    μ-loop
-    loop-holds
-    mul-number-at
-    add-number-at
-    number-at-requires
-    place-of-requires
-    is-held-requires
-    slice-read-is-asked
-    is-asked-requires
-    same-length
-    same-length-2
-    returns
-    slice-read-marks
-    mul-marks
-    add-marks
-    slice-write-marks
-    mul-copy-hash
-    copy-hash-requires
-    add-m
-    add-i
-    loop-less
-    loop-again
-    same-length-3
-    same-length-4
-    returns-2)
+    Inv-loop μ-loop loop-holds mul-number-at add-number-at number-at-requires place-of-requires is-held-requires slice-read-is-asked
+    is-asked-requires same-length same-length-2 returns slice-read-marks mul-marks add-marks slice-write-marks mul-copy-hash
+    copy-hash-requires add-m add-i loop-less loop-again same-length-3 same-length-4 returns-2)

@@ -118,25 +118,6 @@ pub serve-all-spec : {M : Type 1} → statement M
 serve-all-spec =
     tie.close
     (tie.spec
-    Inv-loop
-    μ-loop
-    loop-holds
-    mul-place-of-hash
-    add-place-of-hash
-    place-of-hash-requires
-    same-length
-    returns
-    slice-read-m
-    is-offered-requires
-    same-length-2
-    returns-2
-    is-served-requires
-    same-length-3
-    returns-3
-    add-marks
-    slice-write-marks
-    add-i
-    loop-less
-    loop-again
-    same-length-4
-    returns-4)
+    Inv-loop μ-loop loop-holds mul-place-of-hash add-place-of-hash place-of-hash-requires same-length returns slice-read-m
+    is-offered-requires same-length-2 returns-2 is-served-requires same-length-3 returns-3 add-marks slice-write-marks add-i loop-less
+    loop-again same-length-4 returns-4)

@@ -49,13 +49,4 @@ pub xor-all-spec : {M : Type 1} → statement M
 xor-all-spec =
     tie.close
     (tie.spec
-    Inv-loop
-    μ-loop
-    count-requires
-    loop-holds
-    mul-xor-into
-    xor-into-requires
-    add-i
-    loop-less
-    loop-again
-    returns)
+    Inv-loop μ-loop count-requires loop-holds mul-xor-into xor-into-requires add-i loop-less loop-again returns)

@@ -49,14 +49,4 @@ pub xor-into-spec : {M : Type 1} → statement M
 xor-into-spec =
     tie.close
     (tie.spec
-    Inv-loop
-    μ-loop
-    loop-holds
-    element-copy-out-acc
-    add-acc
-    shared-slice-read-acc
-    element-write-acc
-    add-k
-    loop-less
-    loop-again
-    returns)
+    Inv-loop μ-loop loop-holds element-copy-out-acc add-acc shared-slice-read-acc element-write-acc add-k loop-less loop-again returns)

@@ -70,16 +70,5 @@ pub xor-met-spec : {M : Type 1} → statement M
 xor-met-spec =
     tie.close
     (tie.spec
-    Inv-loop
-    μ-loop
-    count-requires
-    loop-holds
-    add-is-met
-    shared-slice-read-is-met
-    is-met-requires
-    mul-xor-into
-    xor-into-requires
-    add-i
-    loop-less
-    loop-again
-    returns)
+    Inv-loop μ-loop count-requires loop-holds add-is-met shared-slice-read-is-met is-met-requires mul-xor-into xor-into-requires add-i
+    loop-less loop-again returns)

@@ -6,9 +6,6 @@ use borrow.Author.Tests.{lt-ltb, le-ltb}
 use Rattle.session.proofs.filters.came.Statement.{statement}
 use Rattle.session.proofs.filters.came.Tie as tie
 
-sub-if1 : tie.Need-sub-if1
-sub-if1 c = search needs
-
 returns : tie.Need-returns
 returns c = rw (lt-ltb 4096 (c .before .args .nt + c .before .args .theirs) (omega (arith, c .if1 .taken)))
 
@@ -16,4 +13,4 @@ returns-2 : tie.Need-returns-2
 returns-2 c = rw (le-ltb 4096 (c .before .args .nt + c .before .args .theirs) (omega (arith, c .if1 .left)))
 
 pub came-spec : {M : Type 1} → statement M
-came-spec = tie.close (tie.spec sub-if1 returns returns-2)
+came-spec = tie.close (tie.spec (λ c. search needs) returns returns-2)

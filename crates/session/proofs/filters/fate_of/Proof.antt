@@ -14,41 +14,8 @@ use Rattle.session.proofs.filters.fate_of.Tie as tie
 abbrev told : ℕ → ℕ → Reading → Fate
 told nt swaps r = fated (fateOf (answerOf r) nt swaps) (eqb (answerOf r .complete) 1) (answerOf r .ours) (answerOf r .theirs)
 
-enum-known-r : tie.Need-enum-known-r
-enum-known-r c = search needs
-
-came-requires : tie.Need-came-requires
-came-requires c κs = search needs
-
-enum-known-r-2 : tie.Need-enum-known-r-2
-enum-known-r-2 c = search needs
-
-failed-requires : tie.Need-failed-requires
-failed-requires c κs = search needs
-
 enum-told : tie.Need-enum-told
 enum-told c = search needs
-
-failed-requires-2 : tie.Need-failed-requires-2
-failed-requires-2 c κs = search needs
-
-enum-told-2 : tie.Need-enum-told-2
-enum-told-2 c = search needs
-
-failed-requires-3 : tie.Need-failed-requires-3
-failed-requires-3 c κs = search needs
-
-enum-told-3 : tie.Need-enum-told-3
-enum-told-3 c = search needs
-
-failed-requires-4 : tie.Need-failed-requires-4
-failed-requires-4 c κs = search needs
-
-enum-told-4 : tie.Need-enum-told-4
-enum-told-4 c = search needs
-
-failed-requires-5 : tie.Need-failed-requires-5
-failed-requires-5 c κs = search needs
 
 returns : tie.Need-returns
 unfolding fateOf
@@ -78,21 +45,6 @@ pub fate-of-spec : {M : Type 1} → statement M
 fate-of-spec =
     tie.close
     (tie.spec
-    enum-known-r
-    came-requires
-    enum-known-r-2
-    failed-requires
-    enum-told
-    failed-requires-2
-    enum-told-2
-    failed-requires-3
-    enum-told-3
-    failed-requires-4
-    enum-told-4
-    failed-requires-5
-    returns
-    returns-2
-    returns-3
-    returns-4
-    returns-5
-    returns-6)
+    (λ c. search needs) (λ c κs. search needs) (λ c. search needs) (λ c κs. search needs) enum-told (λ c κs. search needs)
+    (λ c. search needs) (λ c κs. search needs) (λ c. search needs) (λ c κs. search needs) (λ c. search needs) (λ c κs. search needs)
+    returns returns-2 returns-3 returns-4 returns-5 returns-6)

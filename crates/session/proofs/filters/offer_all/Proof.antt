@@ -88,19 +88,5 @@ pub offer-all-spec : {M : Type 1} → statement M
 offer-all-spec =
     tie.close
     (tie.spec
-    Inv-loop
-    μ-loop
-    loop-holds
-    mul-id-position
-    shared-slice-read-id-position
-    id-position-requires
-    slice-write-marks
-    mul-copy
-    mul-copy-2
-    copy-requires
-    add-i
-    loop-less
-    loop-again
-    same-length
-    same-length-2
-    returns)
+    Inv-loop μ-loop loop-holds mul-id-position shared-slice-read-id-position id-position-requires slice-write-marks mul-copy mul-copy-2
+    copy-requires add-i loop-less loop-again same-length same-length-2 returns)

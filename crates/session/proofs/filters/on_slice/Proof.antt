@@ -4,19 +4,13 @@ use Rattle.bucket.specs.Columns.{columns}
 use Rattle.bucket.proofs.TestLaws.{test-refused, test-granted}
 use Rattle.message.specs.Reading.{content}
 use Rattle.message.specs.Walking.{exactlyOne}
-use Rattle.session.specs.declared.numbers.Answer.{Answer}
-use Rattle.session.specs.Calls.{answered}
+use Rattle.ledger.specs.declared.numbers.Answer.{Answer}
+use Rattle.ledger.specs.Calls.{answered}
 use Rattle.session.specs.Turns.{sliceTurn′}
 use Rattle.session.proofs.LayTurns.{laid-by, slice-untimely, slice-misplaced, slice-laid}
 use borrow.Author.Needs.{needs}
 use Rattle.session.proofs.filters.on_slice.Statement.{statement}
 use Rattle.session.proofs.filters.on_slice.Tie as tie
-
-admits-slice-requires : tie.Need-admits-slice-requires
-admits-slice-requires c κs = search needs
-
-aborted-requires : tie.Need-aborted-requires
-aborted-requires c κs = search needs
 
 returns : tie.Need-returns
 returns c =
@@ -25,12 +19,6 @@ returns c =
     ap (λ (r : Answer). sliceTurn′ r (columns (a .ids .now) (a .hashes .now) (a .counts .now))) (c .aborted .ensures)
     ∙ slice-untimely (a .numbers) (content (exactlyOne (a .message .now)) (a .message .now)) (a .size) (a .offset) (a .salt) (a .width) (columns (a .ids .now) (a .hashes .now) (a .counts .now)) (test-refused (c .before .before .admits-slice .ensures) (c .before .if1 .taken))
 
-is-placed-requires : tie.Need-is-placed-requires
-is-placed-requires c κs = search needs
-
-aborted-requires-2 : tie.Need-aborted-requires-2
-aborted-requires-2 c κs = search needs
-
 returns-2 : tie.Need-returns-2
 returns-2 c =
     let s = c .before .before .before .before .before .before .before .before in
@@ -38,24 +26,6 @@ returns-2 c =
     ap (λ (r : Answer). sliceTurn′ r (columns (a .ids .now) (a .hashes .now) (a .counts .now))) (c .aborted2 .ensures)
     ∙ slice-misplaced (a .numbers) (content (exactlyOne (a .message .now)) (a .message .now)) (a .size) (a .offset) (a .salt) (a .width) (columns (a .ids .now) (a .hashes .now) (a .counts .now))
     (test-granted (c .before .before .before .before .admits-slice .ensures) (c .before .before .before .if1 .left)) (test-refused (c .before .before .is-placed .ensures) (c .before .if2 .taken))
-
-lay-requires : tie.Need-lay-requires
-lay-requires c κs = search needs
-
-sliced-requires : tie.Need-sliced-requires
-sliced-requires c κs = search needs
-
-answered-requires : tie.Need-answered-requires
-answered-requires c κs = search needs
-
-same-length : tie.Need-same-length
-same-length c = search needs
-
-same-length-2 : tie.Need-same-length-2
-same-length-2 c = search needs
-
-same-length-3 : tie.Need-same-length-3
-same-length-3 c = search needs
 
 returns-3 : tie.Need-returns-3
 returns-3 c =
@@ -71,16 +41,5 @@ pub on-slice-spec : {M : Type 1} → statement M
 on-slice-spec =
     tie.close
     (tie.spec
-    admits-slice-requires
-    aborted-requires
-    returns
-    is-placed-requires
-    aborted-requires-2
-    returns-2
-    lay-requires
-    sliced-requires
-    answered-requires
-    same-length
-    same-length-2
-    same-length-3
-    returns-3)
+    (λ c κs. search needs) (λ c κs. search needs) returns (λ c κs. search needs) (λ c κs. search needs) returns-2 (λ c κs. search needs)
+    (λ c κs. search needs) (λ c κs. search needs) (λ c. search needs) (λ c. search needs) (λ c. search needs) returns-3)

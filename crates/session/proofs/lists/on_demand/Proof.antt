@@ -7,52 +7,25 @@ use borrow.Author.Needs.{needs}
 use Rattle.bucket.specs.Lists.{part}
 use Rattle.bucket.proofs.TestLaws.{test-refused, test-granted}
 use Rattle.bucket.proofs.PackedLaws.{unpacked-length}
-use Rattle.session.specs.Calls.{answered}
+use Rattle.ledger.specs.Calls.{answered}
 use Rattle.session.proofs.DemandSteps.{demand-untimely, demand-bad, demand-taken, demand-bytes}
 use Rattle.session.proofs.lists.on_demand.Statement.{statement}
 use Rattle.session.proofs.lists.on_demand.Tie as tie
-
-admits-requires : tie.Need-admits-requires
-admits-requires c κs = search needs
-
-aborted-requires : tie.Need-aborted-requires
-aborted-requires c κs = search needs
 
 returns : tie.Need-returns
 returns c =
     let a = c .before .before .before .before .before .before .before .before .args in
     demand-untimely (a .numbers) _ _ _ _ _ (test-refused (c .before .before .admits .ensures) (c .before .if1 .taken)) (c .aborted .ensures)
 
-cast-e : tie.Need-cast-e
-cast-e c = search needs
-
-mul-e : tie.Need-mul-e
-mul-e c = search needs
-
-slice-aggregate-copy : tie.Need-slice-aggregate-copy
-slice-aggregate-copy c = search needs
-
-copy-requires : tie.Need-copy-requires
-copy-requires c κs = search needs
-
 slice-aggregate-serve-all : tie.Need-slice-aggregate-serve-all
 slice-aggregate-serve-all c =
     let s = c .before .before .before .before .before .before .before .before .before .before .before .before .before in
     sym (length-take-le (64 * s .args .numbers .demanded) (s .args .records .now) (s .pre .1))
 
-slice-aggregate-serve-all-2 : tie.Need-slice-aggregate-serve-all-2
-slice-aggregate-serve-all-2 c = search needs
-
 serve-all-requires : tie.Need-serve-all-requires
 serve-all-requires c κs =
     let s = c .before .before .before .before .before .before .before .before .before .before .before .before .before .before in
     (record { table-good = s .pre .0 .table-good; known-good = s .pre .0 .known-good; marks-room = omega arith }, s .pre .4)
-
-aborted-requires-2 : tie.Need-aborted-requires-2
-aborted-requires-2 c κs = search needs
-
-same-length : tie.Need-same-length
-same-length c = search needs
 
 returns-2 : tie.Need-returns-2
 returns-2 c =
@@ -62,30 +35,6 @@ returns-2 c =
     let s = asked .before .before .before .before .before .before in
     demand-bad (s .args .numbers) _ _ _ _ _ (test-granted (asked .admits .ensures) (copied .before .before .before .before .if1 .left)) (s .pre .0 .marks-room)
     (copied .copy .ensures) (walked .serve-all .ensures) (test-refused refl (c .before .if2 .taken)) (c .aborted2 .ensures)
-
-slice-aggregate-copy-2 : tie.Need-slice-aggregate-copy-2
-slice-aggregate-copy-2 c = search needs
-
-copy-requires-2 : tie.Need-copy-requires-2
-copy-requires-2 c κs = search needs
-
-mul-copy : tie.Need-mul-copy
-mul-copy c = search needs
-
-copy-requires-3 : tie.Need-copy-requires-3
-copy-requires-3 c κs = search needs
-
-onward-requires : tie.Need-onward-requires
-onward-requires c κs = search needs
-
-answered-requires : tie.Need-answered-requires
-answered-requires c κs = search needs
-
-same-length-2 : tie.Need-same-length-2
-same-length-2 c = search needs
-
-same-length-3 : tie.Need-same-length-3
-same-length-3 c = search needs
 
 returns-3 : tie.Need-returns-3
 returns-3 c =
@@ -106,25 +55,7 @@ pub on-demand-spec : {M : Type 1} → statement M
 on-demand-spec =
     tie.close
     (tie.spec
-    admits-requires
-    aborted-requires
-    returns
-    cast-e
-    mul-e
-    slice-aggregate-copy
-    copy-requires
-    slice-aggregate-serve-all
-    slice-aggregate-serve-all-2
-    serve-all-requires
-    aborted-requires-2
-    same-length
-    returns-2
-    slice-aggregate-copy-2
-    copy-requires-2
-    mul-copy
-    copy-requires-3
-    onward-requires
-    answered-requires
-    same-length-2
-    same-length-3
-    returns-3)
+    (λ c κs. search needs) (λ c κs. search needs) returns (λ c. search needs) (λ c. search needs) (λ c. search needs)
+    (λ c κs. search needs) slice-aggregate-serve-all (λ c. search needs) serve-all-requires (λ c κs. search needs) (λ c. search needs)
+    returns-2 (λ c. search needs) (λ c κs. search needs) (λ c. search needs) (λ c κs. search needs) (λ c κs. search needs)
+    (λ c κs. search needs) (λ c. search needs) (λ c. search needs) returns-3)

@@ -63,14 +63,4 @@ pub count-extra-spec : {M : Type 1} → statement M
 count-extra-spec =
     tie.close
     (tie.spec
-    Inv-loop
-    μ-loop
-    loop-holds
-    mul-number-at
-    number-at-requires
-    holds-id-requires
-    add-c
-    add-i
-    loop-less
-    loop-again
-    returns)
+    Inv-loop μ-loop loop-holds mul-number-at number-at-requires holds-id-requires add-c add-i loop-less loop-again returns)

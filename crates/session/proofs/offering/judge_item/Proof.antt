@@ -16,12 +16,6 @@ use borrow.Author.Needs.{needs}
 use Rattle.session.proofs.offering.judge_item.Statement.{statement}
 use Rattle.session.proofs.offering.judge_item.Tie as tie
 
-number-at-requires : tie.Need-number-at-requires
-number-at-requires c κs = search needs
-
-place-of-requires : tie.Need-place-of-requires
-place-of-requires c κs = search needs
-
 is-hash-at-requires : tie.Need-is-hash-at-requires
 is-hash-at-requires c κs =
     let s = c .before .before .before .before .before .before .before .before in
@@ -43,12 +37,6 @@ returns-2 c =
     item-judged (a .table .now) (a .known .now) (a .fresh .now) (take (a .k) (a .inquired .now)) (a .active) (a .at) (a .message .now) (s .pre .5)
     (c .before .before .before .before .number-at .ensures) (c .before .before .before .place-of .ensures)
     (lt-ltb (c .before .before .before .place-of .result) 8192 (c .before .before .if1 .taken)) (sym (c .before .is-hash-at .ensures) ∙ c .if2 .left) refl refl refl
-
-holds-id-requires : tie.Need-holds-id-requires
-holds-id-requires c κs = search needs
-
-id-position-requires : tie.Need-id-position-requires
-id-position-requires c κs = search needs
 
 mul-same-hash : tie.Need-mul-same-hash
 mul-same-hash c =
@@ -86,9 +74,6 @@ returns-4 c =
     ∙ sym (c .before .same-hash .ensures) ∙ c .if4 .left)
     refl
 
-holds-id-requires-2 : tie.Need-holds-id-requires-2
-holds-id-requires-2 c κs = search needs
-
 returns-5 : tie.Need-returns-5
 returns-5 c =
     let s = c .before .before .before .before .before .before .before .before .before .before .before .before .before in
@@ -120,18 +105,5 @@ pub judge-item-spec : {M : Type 1} → statement M
 judge-item-spec =
     tie.close
     (tie.spec
-    number-at-requires
-    place-of-requires
-    is-hash-at-requires
-    returns
-    returns-2
-    holds-id-requires
-    id-position-requires
-    mul-same-hash
-    same-hash-requires
-    returns-3
-    returns-4
-    holds-id-requires-2
-    returns-5
-    returns-6
-    returns-7)
+    (λ c κs. search needs) (λ c κs. search needs) is-hash-at-requires returns returns-2 (λ c κs. search needs) (λ c κs. search needs)
+    mul-same-hash same-hash-requires returns-3 returns-4 (λ c κs. search needs) returns-5 returns-6 returns-7)

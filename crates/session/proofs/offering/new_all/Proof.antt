@@ -11,8 +11,7 @@ use Rattle.bucket.specs.Digits.{joined, unpacked}
 use Rattle.bucket.specs.Lists.{part}
 use Rattle.bucket.proofs.PackedLaws.{unpacked-length}
 use Rattle.filter.specs.Table.{firstEight, idsOf, position}
-use Rattle.filter.proofs.TableLaws.{part-short}
-use Rattle.session.proofs.PutInLaws.{id-bytes}
+use Rattle.filter.proofs.TableLaws.{part-short, first-eight-part}
 use Rattle.session.proofs.PlaceLaws.{table-short, bytes-back}
 use Rattle.session.proofs.AskLaws.{item-read, items-inside, items-past}
 use Rattle.session.proofs.OfferLaws.{Offering, offering-start, offering-known, offering-bad, offering-new, offering-end}
@@ -139,7 +138,7 @@ loop-again c =
     (λ w. offering-new (d .before .loop .inv) (inside d) (item d) (many d) (s .pre .6) (c .before .judge-item .ensures) (w .1 .given .1) (s .pre .7)
     (part-short at 64 (a .message .now))
     (bytes-back at (a .message .now) (omega (arith, s .pre .4)) (λ k. c .before .before .before .before .before .before .before .shared-slice-known4 .given k .fits))
-    (w .3 .ensures .0 ∙ ap (position (idsOf firstEight (take (64 * d .before .loop .m) (d .before .loop .fresh)))) (sym (id-bytes at (a .message .now) (omega (arith, s .pre .4)))))
+    (w .3 .ensures .0 ∙ ap (position (idsOf firstEight (take (64 * d .before .loop .m) (d .before .loop .fresh)))) (sym (first-eight-part at (a .message .now) (omega (arith, s .pre .4)))))
     (w .10 ∙ w .3 .ensures .2) (ap length (w .10) ∙ w .3 .kept .0) (w .11 ∙ w .7 .ensures) (w .12))
     (λ w. offering-known (d .before .loop .inv) (inside d) (item d) (many d) (s .pre .6) (c .before .judge-item .ensures) (w .1 .given .1) (w .2) (w .3) (w .4))
     (c .match .came)
@@ -160,28 +159,6 @@ pub new-all-spec : {M : Type 1} → statement M
 new-all-spec =
     tie.close
     (tie.spec
-    Inv-loop
-    μ-loop
-    loop-holds
-    mul-at
-    add-at
-    mul-e
-    slice-reshare-prefix-judge-item
-    slice-aggregate-judge-item
-    judge-item-requires
-    enum-told
-    same-length
-    same-length-2
-    returns
-    enum-told-2
-    insert-hash-requires
-    mul-copy
-    copy-requires
-    add-m
-    enum-told-3
-    add-i
-    loop-less
-    loop-again
-    same-length-3
-    same-length-4
-    returns-2)
+    Inv-loop μ-loop loop-holds mul-at add-at mul-e slice-reshare-prefix-judge-item slice-aggregate-judge-item judge-item-requires enum-told
+    same-length same-length-2 returns enum-told-2 insert-hash-requires mul-copy copy-requires add-m enum-told-3 add-i loop-less loop-again
+    same-length-3 same-length-4 returns-2)

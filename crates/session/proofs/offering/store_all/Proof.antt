@@ -5,7 +5,7 @@ use Prim.Native.Nat.{_+_, _*_, _-_}
 use native.Mathlib.Omega.{arith}
 use lib.ListN.{take}
 use Rattle.filter.specs.Table.{firstEight, hashesOf, idsOf, position}
-use Rattle.session.proofs.PutInLaws.{id-bytes}
+use Rattle.filter.proofs.TableLaws.{first-eight-part}
 use Rattle.session.proofs.PlaceLaws.{bytes-back}
 use Rattle.session.proofs.GatheredLaws.{first-hash, firsts-count, Putting, putting-start, putting-next, putting-end}
 use borrow.Author.Needs.{needs}
@@ -57,7 +57,7 @@ loop-again c =
     let put = c .before .before .before .before .before .before .insert-hash .ensures in
     putting-next (at .inv) (rw (firsts-count (a .m) (a .hashes .now) (s .pre .3)) l) (sym (first-hash (a .m) (a .hashes .now) (s .pre .3) (at .i) l))
     (bytes-back (64 * at .i) (a .hashes .now) (omega (arith, s .pre .3)) (λ k. c .before .before .before .before .before .before .before .before .before .before .shared-slice-known .given k .fits))
-    (put .0 ∙ ap (position (idsOf firstEight (take (64 * (a .n + at .i)) (at .records)))) (sym (id-bytes (64 * at .i) (a .hashes .now) (omega (arith, s .pre .3)))))
+    (put .0 ∙ ap (position (idsOf firstEight (take (64 * (a .n + at .i)) (at .records)))) (sym (first-eight-part (64 * at .i) (a .hashes .now) (omega (arith, s .pre .3)))))
     (put .2) (c .before .before .insert-mark .ensures) (c .before .before .before .before .before .before .insert-hash .kept .0) (c .before .before .insert-mark .kept .0)
 
 same-length : tie.Need-same-length Inv-loop μ-loop
@@ -75,17 +75,5 @@ pub store-all-spec : {M : Type 1} → statement M
 store-all-spec =
     tie.close
     (tie.spec
-    Inv-loop
-    μ-loop
-    loop-holds
-    add-insert-hash
-    mul-insert-hash
-    insert-hash-requires
-    add-insert-mark
-    insert-mark-requires
-    add-i
-    loop-less
-    loop-again
-    same-length
-    same-length-2
-    returns)
+    Inv-loop μ-loop loop-holds add-insert-hash mul-insert-hash insert-hash-requires add-insert-mark insert-mark-requires add-i loop-less
+    loop-again same-length same-length-2 returns)

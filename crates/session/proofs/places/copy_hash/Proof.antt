@@ -9,9 +9,6 @@ use borrow.Author.Needs.{needs}
 use Rattle.session.proofs.places.copy_hash.Statement.{statement}
 use Rattle.session.proofs.places.copy_hash.Tie as tie
 
-mul-copy : tie.Need-mul-copy
-mul-copy c = search needs
-
 copy-requires : tie.Need-copy-requires
 copy-requires c κs =
     let s = c .before .before .before .before .before in
@@ -27,9 +24,6 @@ copy-requires-2 c κs =
     let s = c .before .before .before .before .before in
     (second-placed (s .args .table .now) (s .args .known .now) (s .args .p) (c .before .if1 .left) (s .pre .0), s .pre .1)
 
-same-length : tie.Need-same-length
-same-length c = search needs
-
 returns : tie.Need-returns
 returns c =
     let s = c .before .before .before .before .before .before .before .before in
@@ -38,9 +32,6 @@ returns c =
     ∙ ap (λ (bs : List ℕ). over (a .at) bs (a .out .now))
     (bytes-first (a .table .now) (a .known .now) (a .p) (s .pre .0) (c .before .before .before .before .if1 .taken)
     (λ n. c .before .before .before .before .before .before .before .shared-slice-known .given n .fits))
-
-same-length-2 : tie.Need-same-length-2
-same-length-2 c = search needs
 
 returns-2 : tie.Need-returns-2
 returns-2 c =
@@ -55,11 +46,4 @@ pub copy-hash-spec : {M : Type 1} → statement M
 copy-hash-spec =
     tie.close
     (tie.spec
-    mul-copy
-    copy-requires
-    mul-copy-2
-    copy-requires-2
-    same-length
-    returns
-    same-length-2
-    returns-2)
+    (λ c. search needs) copy-requires mul-copy-2 copy-requires-2 (λ c. search needs) returns (λ c. search needs) returns-2)

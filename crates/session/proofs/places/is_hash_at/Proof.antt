@@ -10,9 +10,6 @@ use borrow.Author.Needs.{needs}
 use Rattle.session.proofs.places.is_hash_at.Statement.{statement}
 use Rattle.session.proofs.places.is_hash_at.Tie as tie
 
-mul-same-hash : tie.Need-mul-same-hash
-mul-same-hash c = search needs
-
 same-hash-requires : tie.Need-same-hash-requires
 same-hash-requires c κs =
     let s = c .before .before .before .before in
@@ -46,9 +43,4 @@ pub is-hash-at-spec : {M : Type 1} → statement M
 is-hash-at-spec =
     tie.close
     (tie.spec
-    mul-same-hash
-    same-hash-requires
-    returns
-    mul-same-hash-2
-    same-hash-requires-2
-    returns-2)
+    (λ c. search needs) same-hash-requires returns mul-same-hash-2 same-hash-requires-2 returns-2)

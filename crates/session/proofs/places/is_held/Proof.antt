@@ -8,12 +8,6 @@ use Rattle.session.proofs.places.is_held.Tie as tie
 returns : tie.Need-returns
 returns c = held-first (c .before .before .args .marks .now) (c .before .before .args .p) (c .if1 .taken)
 
-shared-slice-read-is-met : tie.Need-shared-slice-read-is-met
-shared-slice-read-is-met c = search needs
-
-is-met-requires : tie.Need-is-met-requires
-is-met-requires c κs = search needs
-
 returns-2 : tie.Need-returns-2
 returns-2 c =
     let a = c .before .before .before .before .before .args in
@@ -25,4 +19,4 @@ returns-3 c =
 
 pub is-held-spec : {M : Type 1} → statement M
 is-held-spec =
-    tie.close (tie.spec returns shared-slice-read-is-met is-met-requires returns-2 returns-3)
+    tie.close (tie.spec returns (λ c. search needs) (λ c κs. search needs) returns-2 returns-3)

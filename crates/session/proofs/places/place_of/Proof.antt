@@ -10,15 +10,6 @@ use borrow.Author.Needs.{needs}
 use Rattle.session.proofs.places.place_of.Statement.{statement}
 use Rattle.session.proofs.places.place_of.Tie as tie
 
-id-position-requires : tie.Need-id-position-requires
-id-position-requires c κs = search needs
-
-count-requires : tie.Need-count-requires
-count-requires c κs = search needs
-
-element-id-requires : tie.Need-element-id-requires
-element-id-requires c κs = search needs
-
 returns : tie.Need-returns
 returns c =
     let a = c .before .before .before .before .before .before .before .args in
@@ -26,15 +17,6 @@ returns c =
     place-first (idsOf firstEight (a .table .now)) (idsOf firstEight (a .known .now)) (a .id)
     (found (a .table .now) (a .id) (s .ensures) (c .before .before .before .count .ensures) (c .before .before .if1 .taken) (c .before .element-id .ensures) (c .if2 .taken))
     (s .ensures)
-
-id-position-requires-2 : tie.Need-id-position-requires-2
-id-position-requires-2 c κs = search needs
-
-count-requires-2 : tie.Need-count-requires-2
-count-requires-2 c κs = search needs
-
-element-id-requires-2 : tie.Need-element-id-requires-2
-element-id-requires-2 c κs = search needs
 
 add-result : tie.Need-add-result
 add-result c =
@@ -79,14 +61,5 @@ pub place-of-spec : {M : Type 1} → statement M
 place-of-spec =
     tie.close
     (tie.spec
-    id-position-requires
-    count-requires
-    element-id-requires
-    returns
-    id-position-requires-2
-    count-requires-2
-    element-id-requires-2
-    add-result
-    returns-2
-    returns-3
-    returns-4)
+    (λ c κs. search needs) (λ c κs. search needs) (λ c κs. search needs) returns (λ c κs. search needs) (λ c κs. search needs)
+    (λ c κs. search needs) add-result returns-2 returns-3 returns-4)

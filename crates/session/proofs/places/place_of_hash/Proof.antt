@@ -5,12 +5,6 @@ use borrow.Author.Needs.{needs}
 use Rattle.session.proofs.places.place_of_hash.Statement.{statement}
 use Rattle.session.proofs.places.place_of_hash.Tie as tie
 
-number-at-requires : tie.Need-number-at-requires
-number-at-requires c κs = search needs
-
-place-of-requires : tie.Need-place-of-requires
-place-of-requires c κs = search needs
-
 is-hash-at-requires : tie.Need-is-hash-at-requires
 is-hash-at-requires c κs =
     let s = c .before .before .before .before .before .before in
@@ -42,4 +36,4 @@ returns-3 c =
 pub place-of-hash-spec : {M : Type 1} → statement M
 place-of-hash-spec =
     tie.close
-    (tie.spec number-at-requires place-of-requires is-hash-at-requires returns returns-2 returns-3)
+    (tie.spec (λ c κs. search needs) (λ c κs. search needs) is-hash-at-requires returns returns-2 returns-3)

@@ -5,21 +5,12 @@ use borrow.Author.Needs.{needs}
 use lib.ListN.{take}
 use Rattle.bucket.specs.Digits.{joined}
 use Rattle.message.specs.Layout.{done}
-use Rattle.session.proofs.SendLaws.{sent-to, not-refused, done-writes}
+use Rattle.ledger.proofs.SendLaws.{sent-to, not-refused, done-writes}
 use Rattle.session.proofs.sending.send_done.Statement.{statement}
 use Rattle.session.proofs.sending.send_done.Tie as tie
 
-done-requires : tie.Need-done-requires
-done-requires c κs = search needs
-
-enum-known-next : tie.Need-enum-known-next
-enum-known-next c = search needs
-
 enum-told : tie.Need-enum-told
 enum-told c = search needs
-
-same-length : tie.Need-same-length
-same-length c = search needs
 
 returns : tie.Need-returns
 returns c =
@@ -29,9 +20,6 @@ returns c =
     (not-refused (done (joined 8 (take 64 (a .check .now))) ∷ []) (a .at) (a .out .now)
     (c .before .before .before .before .done .ensures ∙ done-writes (a .check .now) (a .at) (a .out .now) (s .pre .0) (s .pre .1))
     (c .enum-told .given .1))
-
-same-length-2 : tie.Need-same-length-2
-same-length-2 c = search needs
 
 returns-2 : tie.Need-returns-2
 returns-2 c =
@@ -44,4 +32,4 @@ returns-2 c =
 pub send-done-spec : {M : Type 1} → statement M
 send-done-spec =
     tie.close
-    (tie.spec done-requires enum-known-next enum-told same-length returns same-length-2 returns-2)
+    (tie.spec (λ c κs. search needs) (λ c. search needs) enum-told (λ c. search needs) returns (λ c. search needs) returns-2)

@@ -2,21 +2,12 @@
 use mathlib.Core.Path.{_∙_}
 use borrow.Author.Needs.{needs}
 use Rattle.message.specs.Writing.{inquiriesOf}
-use Rattle.session.proofs.SendLaws.{sent-to, not-refused, inquiry-writes}
+use Rattle.ledger.proofs.SendLaws.{sent-to, not-refused, inquiry-writes}
 use Rattle.session.proofs.sending.send_inquiries.Statement.{statement}
 use Rattle.session.proofs.sending.send_inquiries.Tie as tie
 
-inquiry-requires : tie.Need-inquiry-requires
-inquiry-requires c κs = search needs
-
-enum-known-next : tie.Need-enum-known-next
-enum-known-next c = search needs
-
 enum-told : tie.Need-enum-told
 enum-told c = search needs
-
-same-length : tie.Need-same-length
-same-length c = search needs
 
 returns : tie.Need-returns
 returns c =
@@ -26,9 +17,6 @@ returns c =
     (not-refused (inquiriesOf (a .salt) (a .ids .now)) (a .at) (a .out .now)
     (c .before .before .before .before .inquiry .ensures ∙ inquiry-writes (a .salt) (a .ids .now) (a .at) (a .out .now) (s .pre .0) (s .pre .1))
     (c .enum-told .given .1))
-
-same-length-2 : tie.Need-same-length-2
-same-length-2 c = search needs
 
 returns-2 : tie.Need-returns-2
 returns-2 c =
@@ -41,4 +29,4 @@ returns-2 c =
 pub send-inquiries-spec : {M : Type 1} → statement M
 send-inquiries-spec =
     tie.close
-    (tie.spec inquiry-requires enum-known-next enum-told same-length returns same-length-2 returns-2)
+    (tie.spec (λ c κs. search needs) (λ c. search needs) enum-told (λ c. search needs) returns (λ c. search needs) returns-2)

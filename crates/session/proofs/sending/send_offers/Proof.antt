@@ -3,21 +3,12 @@ use mathlib.Core.Path.{_∙_}
 use borrow.Author.Needs.{needs}
 use Rattle.filter.specs.Table.{hashesOf}
 use Rattle.message.specs.Writing.{offersOf}
-use Rattle.session.proofs.SendLaws.{sent-to, not-refused, hashes-write}
+use Rattle.ledger.proofs.SendLaws.{sent-to, not-refused, hashes-write}
 use Rattle.session.proofs.sending.send_offers.Statement.{statement}
 use Rattle.session.proofs.sending.send_offers.Tie as tie
 
-offer-requires : tie.Need-offer-requires
-offer-requires c κs = search needs
-
-enum-known-next : tie.Need-enum-known-next
-enum-known-next c = search needs
-
 enum-told : tie.Need-enum-told
 enum-told c = search needs
-
-same-length : tie.Need-same-length
-same-length c = search needs
 
 returns : tie.Need-returns
 returns c =
@@ -27,9 +18,6 @@ returns c =
     (not-refused (offersOf (hashesOf (a .hashes .now))) (a .at) (a .out .now)
     (c .before .before .before .before .offer .ensures ∙ hashes-write offersOf (a .hashes .now) (a .at) (a .out .now) (s .pre .0) (s .pre .1))
     (c .enum-told .given .1))
-
-same-length-2 : tie.Need-same-length-2
-same-length-2 c = search needs
 
 returns-2 : tie.Need-returns-2
 returns-2 c =
@@ -42,4 +30,4 @@ returns-2 c =
 pub send-offers-spec : {M : Type 1} → statement M
 send-offers-spec =
     tie.close
-    (tie.spec offer-requires enum-known-next enum-told same-length returns same-length-2 returns-2)
+    (tie.spec (λ c κs. search needs) (λ c. search needs) enum-told (λ c. search needs) returns (λ c. search needs) returns-2)

@@ -2,7 +2,7 @@
 use native.Mathlib.Omega.{arith}
 use borrow.Author.Needs.{needs}
 use borrow.Author.Tests.{ltb-true, ltb-false}
-use Rattle.session.specs.Session.{nextSize}
+use Rattle.ledger.specs.Session.{nextSize}
 use Rattle.session.proofs.swapping.next_size.Statement.{statement}
 use Rattle.session.proofs.swapping.next_size.Tie as tie
 
@@ -10,12 +10,9 @@ returns : tie.Need-returns
 unfolding nextSize
 returns c = omega (arith, ltb-true)
 
-mul-result : tie.Need-mul-result
-mul-result c = search needs
-
 returns-2 : tie.Need-returns-2
 unfolding nextSize
 returns-2 c = omega (arith, ltb-false)
 
 pub next-size-spec : {M : Type 1} → statement M
-next-size-spec = tie.close (tie.spec returns mul-result returns-2)
+next-size-spec = tie.close (tie.spec returns (λ c. search needs) returns-2)

@@ -1,0 +1,66 @@
+// The grid: a constant of states against messages, read by every message's function.
+ghost use mathlib.Core.Path.{_≡_};
+ghost use Rattle.ledger.specs.Grid.{entry};
+ghost use Rattle.form.specs.Answers.{admitsSlice, isPlaced};
+use ledger::numbers::EXPECTING_LAST;
+use ledger::numbers::Numbers;
+use ledger::numbers::PASSIVE;
+
+// The columns of the grid.
+pub const IBF: usize = 0;
+
+pub const LAST: usize = 1;
+
+pub const INQUIRY: usize = 2;
+
+pub const OFFER: usize = 3;
+
+pub const DEMAND: usize = 4;
+
+pub const ELEMENT: usize = 5;
+
+pub const DONE: usize = 6;
+
+// One row a state: IBF, IBF LAST, INQUIRY, OFFER, DEMAND, ELEMENT, DONE.
+const GRID: [[bool; 7]; 8] = [
+    [true, true, false, false, false, false, false], // 0 Expecting IBF
+    [true, true, false, false, false, false, false], // 1 Expecting IBF Last
+    [false, false, false, true, true, true, true], // 2 Active Decoding
+    [true, true, true, true, true, true, true], // 3 Passive Decoding
+    [false, false, false, false, false, true, false], // 4 Finish Closing
+    [false, false, false, false, false, true, false], // 5 Finish Waiting
+    [false, false, false, false, false, false, false], // 6 Finished
+    [false, false, false, false, false, false, false], // 7 Aborted
+];
+
+// Whether a message of a kind may come in a state. Outside the grid nothing may.
+pub fn admits(state: u32, kind: usize) -> bool
+    ensures { λ r. ⌜ r ≡ entry state kind ⌝ }
+{
+    if 7 < state {
+        return false;
+    }
+    if 6 < kind {
+        return false;
+    }
+    let row = GRID[state as usize];
+    row[kind]
+}
+
+// The same for a slice: in Passive Decoding only as first message since entry.
+pub fn admits_slice(numbers: Numbers, kind: usize) -> bool
+    ensures { λ r. ⌜ r ≡ admitsSlice numbers kind ⌝ }
+{
+    admits(numbers.state, kind) & !((numbers.state == PASSIVE) & !(numbers.first == 1))
+}
+
+// Whether a slice comes in offset order without a gap, with one size, salt and width.
+pub fn is_placed(numbers: Numbers, size: u32, offset: u32, salt: u32, width: u32) -> bool
+    ensures { λ r. ⌜ r ≡ isPlaced numbers size offset salt width ⌝ }
+{
+    if numbers.state == EXPECTING_LAST {
+        return (offset == 2520)
+            & ((size == numbers.size) & ((salt == numbers.salt) & (width == numbers.width)));
+    }
+    offset == 0
+}

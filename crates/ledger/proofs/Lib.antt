@@ -1,0 +1,26 @@
+-- The laws of the session's definitions, for the crates above. Theorems is what a reader looks at.
+pub mod BelowLaws
+pub mod BookLaws
+pub mod HeldLaws
+pub mod KeptLaws
+pub mod BitLaws
+pub mod MemoryLaws
+pub mod PointLaws
+pub mod ActLaws
+pub mod ThereLaws
+pub mod FaultLaws
+pub mod GridLaws
+pub mod ReadingLaws
+pub mod Lawful
+pub mod FormKept
+pub mod ChangeLaws
+pub mod Theorems
+pub mod CallLaws
+pub mod SendLaws
+pub mod FilterRoomLaws
+pub mod LaidLaws
+pub mod LastLaws
+pub mod Sound
+pub mod GivenLaws
+pub mod OpenLaws
+pub mod RoomLaws
