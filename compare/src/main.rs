@@ -8,6 +8,7 @@ mod differ;
 mod estimates;
 mod estimator;
 mod filters;
+mod gathered;
 mod honest;
 mod known;
 mod known_filters;
@@ -28,6 +29,7 @@ mod tables;
 
 use estimator::Outcome;
 use filters::End;
+use gathered::Gathered;
 use random::Random;
 use std::fmt::Debug;
 use std::process::exit;
@@ -42,7 +44,8 @@ const LEAST_OF_AN_END: u64 = 200;
 /// A shown answer is cut to this many characters.
 const SHOWN: usize = 1200;
 
-/// Counts the comparisons of each subject and stops the program at the first difference.
+/// Counts the comparisons of each subject and stops the program at the first difference, unless
+/// they are being gathered.
 pub struct Tally {
     subjects: Vec<(&'static str, u64)>,
     seed: u64,
@@ -50,6 +53,7 @@ pub struct Tally {
     outcomes: Vec<Outcome>,
     messages: messages::Counts,
     sessions: sessions::Counts,
+    gathered: Gathered,
 }
 
 impl Tally {
@@ -71,6 +75,9 @@ impl Tally {
     }
 
     fn tell_last(&self) {
+        if self.gathered.quiet {
+            return;
+        }
         if let Some((name, compared)) = self.subjects.last() {
             println!("{name}: {compared} compared");
         }
@@ -83,9 +90,23 @@ impl Tally {
         model: T,
         library: T,
     ) {
+        self.same_of_kind(String::new, call, model, library);
+    }
+
+    /// Likewise; where differences are gathered, this one is counted as one of its kind.
+    pub fn same_of_kind<T: PartialEq + Debug>(
+        &mut self,
+        kind: impl FnOnce() -> String,
+        call: impl FnOnce() -> String,
+        model: T,
+        library: T,
+    ) {
         let (name, compared) = self.subjects.last_mut().expect("a subject has begun");
         *compared += 1;
         if model == library {
+            return;
+        }
+        if self.gathered.is_on() && !self.gathered.count(kind()) {
             return;
         }
         let (model, library) = (format!("{model:x?}"), format!("{library:x?}"));
@@ -95,6 +116,10 @@ impl Tally {
         println!("  call    {}", excerpt(&call(), 0));
         println!("  model   {}", excerpt(&model, from));
         println!("  library {}", excerpt(&library, from));
+        // Those that are gathered are many, and told again by kind.
+        if self.gathered.is_on() {
+            return;
+        }
         println!(
             "  differ  {} | {}",
             around(&model, from),
@@ -102,6 +127,13 @@ impl Tally {
         );
         println!("  (hexadecimal; a buffer written to is shown with the {GUARD} before and behind what is lent)");
         exit(1);
+    }
+
+    /// Tells the differences gathered, and stops the program if there are any.
+    pub fn end_gathering(&mut self) {
+        if !self.gathered.end() {
+            exit(1);
+        }
     }
 }
 
@@ -140,13 +172,14 @@ fn main() {
     match words[..] {
         ["mutate", calls, seed] => mutate(calls, seed),
         ["mutate", ..] => usage(),
+        ["stand-ins"] => stand_ins(),
         ["sessions", ..] => compare(true),
         _ => compare(false),
     }
 }
 
 fn usage() {
-    println!("usage: compare [sessions | mutate CALLS SEED]");
+    println!("usage: compare [sessions | stand-ins | mutate CALLS SEED]");
     exit(1);
 }
 
@@ -167,6 +200,7 @@ fn begin() -> Tally {
         outcomes: Vec::new(),
         messages: messages::Counts::default(),
         sessions: sessions::Counts::default(),
+        gathered: Gathered::default(),
     }
 }
 
@@ -181,6 +215,14 @@ fn mutate(calls: &str, seed: &str) {
         exit(1);
     }
     println!("{calls} mutated calls of seed {seed}, no difference");
+}
+
+/// Puts stand-ins in the place of the library, each with one fault: the comparison must find it.
+fn stand_ins() {
+    if !sessions::stand_ins::are_caught(begin) {
+        println!("a stand-in was not caught, or one without a fault was");
+        exit(1);
+    }
 }
 
 /// Compares everything; or the sessions alone, which costs less time.

@@ -18,7 +18,9 @@ pub mod mutated;
 mod peer;
 mod readings;
 mod rooms;
+mod short;
 mod slices;
+pub mod stand_ins;
 mod starting;
 mod starts;
 mod step;
@@ -30,11 +32,19 @@ use crate::Tally;
 pub fn compare(tally: &mut Tally) {
     known::compare(tally);
     starting::compare(tally);
-    rooms::compare(tally);
+    lent_too_little(tally);
     broken::compare(tally);
     ledgers::compare(tally);
     limits::compare(tally);
     readings::compare(tally);
     honest::compare(tally);
     hostile::compare(tally);
+}
+
+/// Each of these calls stands by itself: all differences are told.
+fn lent_too_little(tally: &mut Tally) {
+    tally.gathered.begin();
+    short::compare(tally);
+    rooms::compare(tally);
+    tally.end_gathering();
 }

@@ -1,7 +1,7 @@
 //! One call by the model and by the library, each on a memory of its own, all of it compared.
 
 use super::ledger::{Hash, Ledger};
-use super::memory::{set, Difference, Memory, Numbers, Step};
+use super::memory::{set, Difference, Memory, Numbers, Rooms, Step};
 use super::step::Why;
 use super::{starts, step};
 use crate::library::session as library;
@@ -123,12 +123,16 @@ impl Compared {
 
     fn compare(&mut self, tally: &mut Tally, numbers: Numbers) -> (Step, Why) {
         let (model, why) = step::step(numbers, self.model.lent());
-        let library = library::step(numbers, self.library.lent());
+        let library = (tally.sessions.library)(numbers, self.library.lent());
         tally.sessions.step(&numbers, &model, why);
         let differences = self.model.differences(&self.library);
+        let rooms = self.model.lent().rooms();
         let message = lent(&mut self.model.message);
-        let call = || format!("step {numbers:?} ({why}) of {}", told(message));
-        same(tally, call, model, library, differences);
+        let call = || {
+            let (short, message) = (told_short(&rooms), told(message));
+            format!("step {numbers:?} ({why}), {short}, of {message}")
+        };
+        same_step(tally, call, (model, why), library, differences);
         (model, why)
     }
 
@@ -178,6 +182,39 @@ pub fn same(
 ) {
     let call = || format!("{}; the memories differ at {differences:x?}", call());
     tally.same(call, (model, true), (library, differences.is_empty()));
+}
+
+/// Likewise of a step, told as one of its kind where differences are gathered.
+pub fn same_step(
+    tally: &mut Tally,
+    call: impl Fn() -> String,
+    (model, why): (Step, Why),
+    library: Step,
+    differences: Vec<Difference>,
+) {
+    let kind = || {
+        let slices: Vec<&str> = differences.iter().map(|at| at.slice).collect();
+        let memory = match slices.is_empty() {
+            true => String::from("the same"),
+            false => format!("different in {}", slices.join(", ")),
+        };
+        let [ours, other] = [model.refusal, library.refusal];
+        format!("model {ours} ({why}), library {other}, memory {memory}")
+    };
+    let call = || format!("{}; the memories differ at {differences:x?}", call());
+    tally.same_of_kind(kind, call, (model, true), (library, differences.is_empty()));
+}
+
+/// The slices that are short, in words.
+pub fn told_short(rooms: &Rooms) -> String {
+    let short = rooms.iter().filter(|(_, there, asked)| there < asked);
+    let words: Vec<String> = short
+        .map(|(name, there, asked)| format!("{name} {there} of {asked}"))
+        .collect();
+    match words.is_empty() {
+        true => String::from("nothing short"),
+        false => format!("short (decimal): {}", words.join(", ")),
+    }
 }
 
 /// A message in words.

@@ -1,7 +1,8 @@
 //! How often each answer was given in each state and why, and how often it must have been.
 
-use super::memory::{Numbers, Step};
+use super::memory::{Lent, Numbers, Step};
 use super::step::Why;
+use crate::library::session as library;
 use std::collections::BTreeMap;
 
 /// The states, the first message in 3 apart, and numbers that are no state.
@@ -17,24 +18,41 @@ pub fn row(numbers: &Numbers) -> &'static str {
 }
 
 /// Fewer steps of a sort mean that something was left out.
-const LEAST_STEPS: [(&str, u64); 5] = [
+const LEAST_STEPS: [(&str, u64); 6] = [
     ("honest", 20_000),
     ("hostile", 100_000),
     ("ledgers", 20_000),
     ("rooms", 1_000),
+    ("short", 60_000),
     ("starts", 500),
 ];
 
 /// An answer given for a reason in a state fewer times than this is as good as untested.
 const LEAST: u64 = 5;
 
-#[derive(Default)]
+/// A step of the library, or of what stands in for it.
+pub type LibraryStep = for<'a> fn(Numbers, Lent<'a>) -> Step;
+
 pub struct Counts {
     /// What is being compared.
     pub sort: &'static str,
+    /// With what.
+    pub library: LibraryStep,
     steps: BTreeMap<&'static str, u64>,
     given: BTreeMap<(u32, Why, &'static str), u64>,
     starts: BTreeMap<(u32, Why), u64>,
+}
+
+impl Default for Counts {
+    fn default() -> Counts {
+        Counts {
+            sort: "",
+            library: library::step,
+            steps: BTreeMap::new(),
+            given: BTreeMap::new(),
+            starts: BTreeMap::new(),
+        }
+    }
 }
 
 impl Counts {
@@ -117,17 +135,17 @@ const STARTS: [(u32, Why); 5] = [
     (3, "size or salt"),
 ];
 
-type Rows = &'static [&'static str];
+pub type Rows = &'static [&'static str];
 
 const READING: Rows = &["0", "1", "3 first"];
 const TALKING: Rows = &["2", "3 first", "3"];
 const LATER: Rows = &["2", "3"];
 const RUNNING: Rows = &["0", "1", "2", "3 first", "3", "4", "5"];
-const ALL: Rows = &["0", "1", "2", "3 first", "3", "4", "5", "6", "7"];
+pub const ALL: Rows = &["0", "1", "2", "3 first", "3", "4", "5", "6", "7"];
 const ALL_AND_NONE: Rows = &["0", "1", "2", "3 first", "3", "4", "5", "6", "7", "none"];
 const CLOSING: Rows = &["4", "5"];
-const UNTOUCHED: Rows = &["0", "1", "3 first"];
-const TOUCHED: Rows = &["2", "3", "4", "5", "6", "7"];
+pub const UNTOUCHED: Rows = &["0", "1", "3 first"];
+pub const TOUCHED: Rows = &["2", "3", "4", "5", "6", "7"];
 
 /// What must have been given: the answer, why, and in which states.
 const MUST: &[(u32, Why, Rows)] = &[

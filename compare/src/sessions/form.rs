@@ -1,7 +1,7 @@
 //! The form of what a session is given (refusal 1): which of its clauses are broken.
 
-use super::ledger::{Ledger, MET};
-use super::memory::{Lent, Numbers, DEMANDED_MARKS, MARKS, PLACES, RECORDS};
+use super::ledger::{Ledger, There, MET};
+use super::memory::{Lent, Numbers, DEMANDED_MARKS};
 use crate::filters::{id_of, is_table, range_is_good, MOST_COUNT, MOST_HASHES};
 use std::collections::BTreeSet;
 
@@ -19,15 +19,41 @@ fn broken(clauses: &[(&'static str, bool)]) -> Vec<&'static str> {
     broken.map(|&(name, _)| name).collect()
 }
 
-/// All broken clauses; those on the ledger's memory are judged only where it has room and the
-/// counts say how far it goes.
+/// All broken clauses; those on the ledger's memory are judged only where the numbers say how far
+/// it goes, and as far as it is there.
 pub fn breaches(numbers: &Numbers, lent: &Lent) -> Vec<&'static str> {
-    let judged = lent.counts.iter().take(JUDGED);
-    let columns = numbers.state != 1
-        || judged
-            .into_iter()
-            .all(|count| (0..=MOST_COUNT).contains(count));
-    let breaches = broken(&[
+    breaches_in(numbers, lent, &There::of(numbers, lent))
+}
+
+/// Likewise, so much of the ledger being there.
+pub fn breaches_in(numbers: &Numbers, lent: &Lent, there: &There) -> Vec<&'static str> {
+    let mut breaches = of_ranges(numbers, lent);
+    if breaches.is_empty() && is_untouched(numbers) {
+        breaches = of_idle_numbers(numbers);
+    }
+    if !breaches.is_empty() {
+        return breaches;
+    }
+    let ledger = Ledger::decode_part(lent, there);
+    let mut breaches = of_marks(lent, there);
+    breaches.extend(of_part(&ledger));
+    if is_untouched(numbers) {
+        breaches.extend(broken(&[
+            ("nothing is asked", ledger.asked.is_empty()),
+            ("nothing is offered", ledger.offered.is_empty()),
+        ]));
+    }
+    if numbers.state == 2 && there.whole {
+        breaches.extend(of_whole(numbers, &ledger));
+    }
+    breaches
+}
+
+/// The table, the ranges of the numbers, and the columns: whatever is lent of the ledger.
+fn of_ranges(numbers: &Numbers, lent: &Lent) -> Vec<&'static str> {
+    let mut judged = lent.counts.iter().take(JUDGED);
+    let columns = numbers.state != 1 || judged.all(|count| (0..=MOST_COUNT).contains(count));
+    broken(&[
         ("table", is_table(lent.table)),
         ("state", numbers.state <= 7),
         ("first", numbers.first <= 1),
@@ -38,78 +64,70 @@ pub fn breaches(numbers: &Numbers, lent: &Lent) -> Vec<&'static str> {
         ("size", range_is_good(numbers.size, 0)),
         ("salt", range_is_good(37, numbers.salt)),
         ("columns", columns),
-    ]);
-    let has_room =
-        lent.records.len() >= RECORDS && lent.marks.len() >= MARKS && lent.inquired.len() >= PLACES;
-    match breaches.is_empty() && has_room {
-        true => of_memory(numbers, lent),
-        false => breaches,
-    }
+    ])
+}
+
+/// Likewise by the numbers alone, whatever is lent of the ledger.
+fn of_idle_numbers(numbers: &Numbers) -> Vec<&'static str> {
+    broken(&[
+        ("nothing is inquired", numbers.inquired == 0),
+        ("nothing is demanded", numbers.demanded == 0),
+        ("DONE has not gone", numbers.done == 0),
+    ])
+}
+
+fn of_marks(lent: &Lent, there: &There) -> Vec<&'static str> {
+    let mut of_table = lent.marks.iter().take(there.table_marks);
+    let behind = lent.marks.iter().skip(DEMANDED_MARKS);
+    let mut of_records = behind.take(there.demanded);
+    broken(&[
+        ("a table's mark", of_table.all(|&mark| mark < MET)),
+        ("a record's mark", of_records.all(|&mark| mark < 2 * MET)),
+    ])
 }
 
 fn ascend<T: PartialOrd>(list: &[T]) -> bool {
     list.windows(2).all(|two| two[0] < two[1])
 }
 
-fn of_memory(numbers: &Numbers, lent: &Lent) -> Vec<&'static str> {
-    let ledger = Ledger::decode(numbers, lent);
-    let table_marks = &lent.marks[..ledger.table.len()];
-    let records_marks = &lent.marks[DEMANDED_MARKS..][..ledger.demanded.len()];
+/// What any part of a ledger must keep to: where the whole keeps to it, each part does.
+fn of_part(ledger: &Ledger) -> Vec<&'static str> {
     let held = ledger.held();
+    let mut offered = ledger.offered.iter();
+    let mut asked = ledger.asked.iter();
     let elements = ledger.table.iter().chain(&ledger.demanded);
     let ids: Vec<u64> = elements.map(|hash| id_of(hash)).collect();
     let different: BTreeSet<u64> = ids.iter().copied().collect();
-
-    let mut breaches = broken(&[
-        ("a table's mark", table_marks.iter().all(|&mark| mark < MET)),
-        (
-            "a record's mark",
-            records_marks.iter().all(|&mark| mark < 2 * MET),
-        ),
+    let number = ledger.held_and_wanted().len();
+    broken(&[
         ("records ascend", ascend(&ledger.demanded)),
         ("inquired ascend", ascend(&ledger.inquired)),
         (
             "offered are held",
-            ledger
-                .offered
-                .iter()
-                .all(|hash| held.get(&id_of(hash)) == Some(hash)),
+            offered.all(|hash| held.get(&id_of(hash)) == Some(hash)),
         ),
-        (
-            "asked are held",
-            ledger.asked.iter().all(|id| held.contains_key(id)),
-        ),
+        ("asked are held", asked.all(|id| held.contains_key(id))),
         (
             "served were offered",
             ledger.served.is_subset(&ledger.offered),
         ),
         ("no ID is shared", different.len() == ids.len()),
+        ("at most 4,096", number <= MOST_HASHES),
+    ])
+}
+
+/// In state 2 these hold of a whole ledger and may not of a part: an inquired ID may be held by a
+/// demand that is cut off, and a demand inquired by an ID that is.
+fn of_whole(numbers: &Numbers, ledger: &Ledger) -> Vec<&'static str> {
+    let inquired: BTreeSet<u64> = ledger.inquired.iter().copied().collect();
+    let mut demanded = ledger.demanded.iter();
+    let all = ledger.all_inquired_are_held();
+    broken(&[
         (
-            "at most 4,096",
-            ledger.held_and_wanted().len() <= MOST_HASHES,
+            "demands were inquired",
+            demanded.all(|hash| inquired.contains(&id_of(hash))),
         ),
-    ]);
-    if is_untouched(numbers) {
-        breaches.extend(broken(&[
-            ("nothing is inquired", ledger.inquired.is_empty()),
-            ("nothing is asked", ledger.asked.is_empty()),
-            ("nothing is offered", ledger.offered.is_empty()),
-            ("nothing is demanded", ledger.demanded.is_empty()),
-            ("DONE has not gone", numbers.done == 0),
-        ]));
-    }
-    if numbers.state == 2 {
-        let inquired: BTreeSet<u64> = ledger.inquired.iter().copied().collect();
-        let mut demanded = ledger.demanded.iter();
-        let all = ledger.all_inquired_are_held();
-        breaches.extend(broken(&[
-            (
-                "demands were inquired",
-                demanded.all(|hash| inquired.contains(&id_of(hash))),
-            ),
-            ("DONE went, not all is held", numbers.done == 0 || all),
-            ("all is held, DONE went not", numbers.done == 1 || !all),
-        ]));
-    }
-    breaches
+        ("DONE went, not all is held", numbers.done == 0 || all),
+        ("all is held, DONE went not", numbers.done == 1 || !all),
+    ])
 }

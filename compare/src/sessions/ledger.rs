@@ -37,21 +37,54 @@ fn record(j: usize) -> std::ops::Range<usize> {
     HASH * j..HASH * (j + 1)
 }
 
+/// How much of a ledger stands in the slices lent, which may be too short for it.
+#[derive(Clone, Copy, Debug, PartialEq)]
+pub struct There {
+    /// Marks of the table's elements.
+    pub table_marks: usize,
+    /// Demanded hashes, each with its mark.
+    pub demanded: usize,
+    pub inquired: usize,
+    /// Whether that is all that the numbers count.
+    pub whole: bool,
+}
+
+impl There {
+    /// A demanded hash is there where both its 64 bytes and its mark are.
+    pub fn of(numbers: &Numbers, lent: &Lent) -> There {
+        let [all_demanded, all_inquired] = [numbers.demanded, numbers.inquired].map(|n| n as usize);
+        let hashes = lent.records.len() / HASH;
+        let marks = lent.marks.len().saturating_sub(DEMANDED_MARKS);
+        let demanded = all_demanded.min(hashes).min(marks);
+        let inquired = all_inquired.min(lent.inquired.len());
+        There {
+            table_marks: lent.marks.len().min(lent.table.len() / HASH),
+            demanded,
+            inquired,
+            whole: demanded == all_demanded && inquired == all_inquired,
+        }
+    }
+}
+
 impl Ledger {
-    /// What the memory says. The table must be whole hashes, and there must be room for the counts.
+    /// What the memory says, as far as it is there.
     pub fn decode(numbers: &Numbers, lent: &Lent) -> Ledger {
-        let demanded = numbers.demanded as usize;
+        Ledger::decode_part(lent, &There::of(numbers, lent))
+    }
+
+    /// What so much of the memory says.
+    pub fn decode_part(lent: &Lent, there: &There) -> Ledger {
         let mut ledger = Ledger {
             table: hashes_of(lent.table),
-            demanded: hashes_of(&lent.records[..HASH * demanded]),
-            inquired: lent.inquired[..numbers.inquired as usize].to_vec(),
+            demanded: hashes_of(&lent.records[..lent.records.len().min(HASH * there.demanded)]),
+            inquired: lent.inquired[..there.inquired].to_vec(),
             ..Ledger::default()
         };
-        let of_table = ledger.table.clone().into_iter().zip(lent.marks.iter());
-        for (hash, &mark) in of_table {
+        let marks = lent.marks.iter().take(there.table_marks);
+        for (hash, &mark) in ledger.table.clone().into_iter().zip(marks) {
             ledger.note(hash, mark);
         }
-        let marks = &lent.marks[DEMANDED_MARKS..];
+        let marks = lent.marks.iter().skip(DEMANDED_MARKS);
         for (hash, &mark) in ledger.demanded.clone().into_iter().zip(marks) {
             ledger.note(hash, mark);
             if mark & MET != 0 {

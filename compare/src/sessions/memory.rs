@@ -58,9 +58,11 @@ pub struct Lent<'a> {
     pub out: &'a mut [u8],
 }
 
+/// The slices for which room is asked, with what there is and what there must be.
+pub type Rooms = [(&'static str, usize, usize); 10];
+
 impl Lent<'_> {
-    /// The slices for which room is asked, with what there is and what there must be.
-    pub fn rooms(&self) -> [(&'static str, usize, usize); 10] {
+    pub fn rooms(&self) -> Rooms {
         [
             ("records", self.records.len(), RECORDS),
             ("marks", self.marks.len(), MARKS),
@@ -73,6 +75,14 @@ impl Lent<'_> {
             ("hash", self.hash.len(), HASH),
             ("out", self.out.len(), OUT),
         ]
+    }
+
+    /// Whether a slice of the ledger is lent shorter than its room.
+    pub fn has_short_ledger(&self) -> bool {
+        let [records, marks, inquired, ..] = self.rooms();
+        [records, marks, inquired]
+            .iter()
+            .any(|(_, there, asked)| there < asked)
     }
 }
 

@@ -5,8 +5,8 @@
 
 mod counts;
 mod deliveries;
-mod fixture;
-mod ledgers;
+pub mod fixture;
+pub mod ledgers;
 mod lengths;
 
 use super::calls::Delivery;

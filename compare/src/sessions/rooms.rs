@@ -77,8 +77,8 @@ fn each(random: &mut Random) -> Vec<((u32, u32), Room)> {
     ROWS.into_iter().flat_map(with_rooms).collect()
 }
 
-/// A broken form is told before a short slice; but where the ledger's own memory is short, it is
-/// not judged.
+/// A broken form is told before a short slice; but of the ledger only what is lent is judged.
+/// (short.rs has more of these.)
 fn short_and_broken(tally: &mut Tally) {
     let mut random = tally.subject("short slices and a broken form", 0x241);
     let random = &mut random;

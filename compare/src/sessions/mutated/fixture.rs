@@ -6,12 +6,11 @@
 //! memory unchanged (but for 6, 9 and 10), no more is to be done then. When a session is dropped its
 //! memory must be what is kept.
 
-use super::super::calls::{same, told, Delivery};
+use super::super::calls::{same_step, told, told_short, Delivery};
 use super::super::ledger::Ledger;
 use super::super::memory::{set, Lent, Memory, Numbers, Step, MARKS, OUT, PLACES, RECORDS};
 use super::super::step::{self, Why};
 use crate::filters::HASH;
-use crate::library::session as library;
 use crate::random::Random;
 use crate::{Tally, GUARD};
 use std::ops::Range;
@@ -234,14 +233,21 @@ impl Fixture {
             ..
         } = call;
         let (model, why) = step::step(*numbers, lent_of(&mut self.model, lengths));
-        let library = library::step(*numbers, lent_of(&mut self.library, lengths));
+        let library = (tally.sessions.library)(*numbers, lent_of(&mut self.library, lengths));
         tally.sessions.step(numbers, &model, why);
         let differences = self.model.differences(&self.library);
+        let has_differences = !differences.is_empty();
+        let rooms = lent_of(&mut self.model, lengths).rooms();
         let words = || {
-            let message = told(&call.delivery.bytes);
-            format!("step {numbers:?} ({why}) mutated {kinds:?}, lent {lengths:?}, of {message}")
+            let (short, message) = (told_short(&rooms), told(&call.delivery.bytes));
+            let elements = lengths[TABLE_AT] / HASH;
+            format!("step {numbers:?} ({why}) mutated {kinds:?}, {short}, {elements} elements, of {message}")
         };
-        same(tally, words, model, library, differences);
+        same_step(tally, words, (model, why), library, differences);
+        // Where differences are gathered, what comes next must not suffer from this one.
+        if has_differences {
+            self.library.become_copy(&self.model);
+        }
         (model, why)
     }
 

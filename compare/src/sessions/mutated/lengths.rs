@@ -1,5 +1,6 @@
 //! Mutations of the lengths lent: what is cut off stands behind and must not be touched.
 
+use super::super::memory::DEMANDED_MARKS;
 use super::fixture::{Lengths, ASKED, HASH_AT, MESSAGE_AT, TABLE_AT};
 use crate::filters::HASH;
 use crate::random::Random;
@@ -7,7 +8,7 @@ use crate::random::Random;
 /// Mutates what is lent, of which there is so much.
 pub type Mutation = fn(&mut Random, &mut Lengths, &Lengths) -> Option<()>;
 
-pub const ALL: [(&str, Mutation); 8] = [
+pub const ALL: [(&str, Mutation); 11] = [
     ("lengths: one short", one_short),
     ("lengths: one more", one_more),
     ("lengths: nothing of a slice", nothing),
@@ -16,7 +17,13 @@ pub const ALL: [(&str, Mutation); 8] = [
     ("lengths: the table", table),
     ("lengths: the message", message),
     ("lengths: the hash", hash),
+    ("lengths: a part of the records", records),
+    ("lengths: a part of the marks", marks),
+    ("lengths: a part of the inquired IDs", inquired),
 ];
+
+/// Most ledgers count fewer than this: a part of so much is mostly a part of what they count.
+const FEW: u64 = 48;
 
 /// Any of the slices.
 fn slice(random: &mut Random) -> usize {
@@ -80,5 +87,27 @@ fn hash(random: &mut Random, lengths: &mut Lengths, _: &Lengths) -> Option<()> {
     lengths[HASH_AT] = random
         .pick(&[HASH - 1, HASH - 1, 0, any])
         .min(lengths[HASH_AT]);
+    Some(())
+}
+
+/// Some whole hashes, or a byte more or less.
+fn records(random: &mut Random, lengths: &mut Lengths, _: &Lengths) -> Option<()> {
+    let whole = HASH * random.below(FEW) as usize;
+    let len = random.pick(&[whole, whole, whole + 1, whole + HASH - 1]);
+    lengths[1] = len.min(lengths[1]);
+    Some(())
+}
+
+/// Some of the table's, or all of them and some of the records'.
+fn marks(random: &mut Random, lengths: &mut Lengths, _: &Lengths) -> Option<()> {
+    let some = random.below(FEW) as usize;
+    let len = random.pick(&[some, DEMANDED_MARKS + some, DEMANDED_MARKS + some]);
+    lengths[2] = len.min(lengths[2]);
+    Some(())
+}
+
+fn inquired(random: &mut Random, lengths: &mut Lengths, _: &Lengths) -> Option<()> {
+    let some = random.below(FEW) as usize;
+    lengths[3] = some.min(lengths[3]);
     Some(())
 }
