@@ -51,8 +51,8 @@ extern "C" {
 
 /* The version of this header, as text and as major * 10,000 + minor * 100 + patch; and that of the
  * archive that is linked. A program can hold one to the other. */
-#define TANDAWIRE_VERSION "0.2.0"
-#define TANDAWIRE_VERSION_NUMBER 200
+#define TANDAWIRE_VERSION "0.2.1"
+#define TANDAWIRE_VERSION_NUMBER 201
 uint32_t tandawire_version(void);
 
 #define TANDAWIRE_HASH_BYTES 64
@@ -355,6 +355,7 @@ tandawire_stepped tandawire_start_sender(const uint8_t *table, size_t table_leng
  * Elements held are those of the table, and the hashes demanded whose mark has TANDAWIRE_MARK_MET. In
  * TANDAWIRE_FINISHED the far end's checksum, the XOR of all hashes that it holds, was ours.
  *
+ * 1 is tried before 2, on as much of a short ledger as is there: 2 says nothing of what is missing.
  * Refusals 1 and 2 change nothing, not even the state; 5 in a session that has ended likewise. 4, 5, 7,
  * 8, 9 and 10 abort the session and leave the ledger as it was; 9, and 10 after a reading, make columns
  * and lists zero in the places of the filter read. With 6 the session swaps and goes on: what was sent

@@ -28,7 +28,7 @@ static void expect_texts(void)
     expect_text("kind 566", tandawire_kind_text(TANDAWIRE_ELEMENT), "ELEMENT");
     expect_text("kind 0", tandawire_kind_text(TANDAWIRE_MALFORMED), "malformed");
     expect_text("kind 564", tandawire_kind_text(564), "unknown kind");
-    expect_text("version", TANDAWIRE_VERSION, "0.2.0");
+    expect_text("version", TANDAWIRE_VERSION, "0.2.1");
     expect("version, of header and archive", tandawire_version(), TANDAWIRE_VERSION_NUMBER);
 }
 

@@ -83,6 +83,39 @@ static void expect_numbers(void)
     expect("numbers, as given", (size_t)memcmp(&a.next, given, sizeof given), 0);
 }
 
+/* A step with as much of the ledger's memory as is said. */
+static uint32_t refused_short(tandawire_session *s, size_t records, size_t marks, size_t inquired)
+{
+    uint8_t hash[HASH] = {0};
+    return tandawire_step(s->numbers, s->table, s->table_length, s->records, records, s->marks, marks, s->inquired, inquired, s->ids, ALL, s->hashes, ALL, s->counts, ALL,
+                          s->ours, ALL, s->theirs, ALL, hash, sizeof hash, line, 1, s->out, sizeof s->out)
+        .refusal;
+}
+
+/* A ledger that is lent short is judged as far as it is there: 1 comes before 2. */
+static void expect_short_ledgers(void)
+{
+    tandawire_stepped a = tandawire_session_start_receiver(&anna, anna_table, put_table(anna_table, 1, 2));
+    expect("receiver", a.refusal, TANDAWIRE_REFUSED_NONE);
+    const size_t records = sizeof anna.records, marks = sizeof anna.marks;
+    expect("short marks", refused_short(&anna, records, marks - 1, ALL), TANDAWIRE_REFUSED_ROOM);
+    expect("short records", refused_short(&anna, records - 1, marks, ALL), TANDAWIRE_REFUSED_ROOM);
+    expect("short inquired", refused_short(&anna, records, marks, ALL - 1), TANDAWIRE_REFUSED_ROOM);
+    expect("nothing of the ledger", refused_short(&anna, 0, 0, 0), TANDAWIRE_REFUSED_ROOM);
+    anna.marks[1] = TANDAWIRE_MARK_ASKED;
+    expect("a mark, there", refused_short(&anna, 0, 2, 0), TANDAWIRE_REFUSED_FORM);
+    expect("a mark, cut off", refused_short(&anna, 0, 1, 0), TANDAWIRE_REFUSED_ROOM);
+    anna.marks[1] = 0;
+    anna.numbers.done = 1;
+    expect("DONE went, short marks", refused_short(&anna, records, marks - 1, ALL), TANDAWIRE_REFUSED_FORM);
+    anna.numbers.done = 0;
+    anna.numbers.demanded = 1;
+    expect("a demand counted, no records", refused_short(&anna, 0, marks, ALL), TANDAWIRE_REFUSED_FORM);
+    anna.numbers.demanded = 0;
+    anna.numbers.inquired = 1;
+    expect("an ID counted, none there", refused_short(&anna, records, marks, 0), TANDAWIRE_REFUSED_FORM);
+}
+
 /* ---- Two ends, step by step ---- */
 
 /* Hands the message that begins at a position of what was sent to an end; it must be of this kind. */
@@ -241,6 +274,7 @@ static void *run(void *nothing)
     expect_sizes();
     expect_answers();
     expect_numbers();
+    expect_short_ledgers();
     expect_lists(expect_opening());
     expect_closing();
     expect_swaps();
