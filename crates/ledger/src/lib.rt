@@ -1,2 +1,2 @@
-// The session's definitions and their laws, and the numbers that its calls take and answer. The layer below `session`, which has the code.
+// The session's definitions and their laws, and the numbers that its calls take and answer. The layer below `form` and `session`, which have the code.
 pub mod numbers;

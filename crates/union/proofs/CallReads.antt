@@ -3,7 +3,7 @@
 --
 --   call-reads     the reading is filter's
 --   call-trusted   a complete one says what the received filter was made from
---   call-exact     of a filter made from IDs whose difference has no knot it says exactly the difference
+--   call-exact     a filter made by the rules is read exactly, where no bucket shared by several looks pure
 --
 -- Assumes nothing.
 use mathlib.Core.Path.{_≡_, sym, subst, _∙_}

@@ -1,4 +1,4 @@
--- Where demand 3's assumption holds and there is no knot, the premise of Req 14 on the listing follows.
+-- Where demand 3's assumption holds and there is no stopping set (document 02: a knot), the premise of Req 14 on the listing follows.
 --
 --   laid-whole     a filter's slices, laid, are its columns in the first size places
 --   premise        the first filter reads as complete, and its lists are the true difference

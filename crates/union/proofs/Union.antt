@@ -6,7 +6,7 @@
 --   union            in any order of deliveries both finish with the union after finitely many messages
 --
 -- One schedule is followed (Net's batches), in three cases: something is theirs, something is ours alone, nothing differs. Where demand 3's assumption
--- holds and there is no knot, the premises on the reading follow (Listing).
+-- holds and there is no stopping set, the premises on the reading follow (Listing).
 -- Assumes nothing.
 use mathlib.Core.Path.{_≡_, refl, sym, ap, _∙_, subst}
 use mathlib.Core.Bool.{Bool, true, false, false≢true}
