@@ -64,6 +64,7 @@ static const struct job jobs[] = {
     STEP("last_element", "last ELEMENT of 2048, DONE goes", 4093, 2048, 0, 2048, 500000),
     STEP("done", "DONE, Passive, finishes", 4093, 3096, 0, 1000, 0),
     STEP("malformed", "malformed: an IBF LAST a byte short", 4093, 3096, 1000, 0, 150000),
+    STEP("no_state", "in 4, which is no state", 4093, 3096, 1000, 0, 50000),
     SESSION("session_5_5", "session, 5 + 5", 4086, 5, 5, 0, 0),
     SESSION("session_50_50", "session, 50 + 50", 3996, 50, 50, 0, 0),
     SESSION("session_500_500", "session, 500 + 500", 3096, 500, 500, 400000000, 0),
@@ -90,6 +91,7 @@ static const struct {
     {{RECEIVER, TANDAWIRE_ELEMENT, 2048}, 0, TANDAWIRE_ACTIVE_DECODING},
     {{SENDER, TANDAWIRE_DONE, 1}, 0, TANDAWIRE_FINISHED},
     {{RECEIVER, TANDAWIRE_IBF_LAST, 1}, TANDAWIRE_REFUSED_MALFORMED, TANDAWIRE_ABORTED},
+    {{RECEIVER, TANDAWIRE_IBF_LAST, 1}, TANDAWIRE_REFUSED_FORM, 4},
 };
 enum { JOBS = sizeof jobs / sizeof jobs[0], STEPS = sizeof steps / sizeof steps[0] };
 
@@ -109,12 +111,14 @@ static int descending(const void *a, const void *b)
 }
 
 /* What honest ends do not send: one message a byte short, and hashes of an OFFER in the order in which
- * each goes in before all others. */
+ * each goes in before all others. And what no call leaves: a session in 4. */
 static void alter(const char *name)
 {
     static uint8_t altered[TANDAWIRE_MOST_MESSAGE];
     if (strcmp(name, "malformed") == 0)
         message.length--;
+    if (strcmp(name, "no_state") == 0)
+        before.numbers.state = 4;
     if (strcmp(name, "offer_descending") != 0)
         return;
     memcpy(altered, message.bytes, message.length);

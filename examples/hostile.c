@@ -8,12 +8,11 @@
  *
  *     make hostile
  *
- * What a program has to do about such a peer is in lose_a_peer: drop the line, keep the table. Finish
- * Closing has no rows: no session comes to it.
+ * What a program has to do about such a peer is in lose_a_peer: drop the line, keep the table.
  */
 #include "hostile.h"
 
-static unsigned attacks, accepted, refused, wrong;
+static unsigned accepted, refused, wrong;
 static struct message m;
 static tandawire_filter filter;
 
@@ -28,7 +27,6 @@ static void attack(const tandawire_session *from, const struct message *sent, co
     int fine = a.refusal == refusal && a.next.state == state && memory == left && lawful(before.numbers.state, a);
     printf("%s %-55s %-18s %2u %-45s %-18s %6zu  %s\n", fine ? " " : "!", words, tandawire_state_text(before.numbers.state), (unsigned)a.refusal,
            tandawire_refusal_text(a.refusal), tandawire_state_text(a.next.state), a.sent, memory_texts[memory]);
-    attacks++;
     wrong += !fine;
     *(a.refusal ? &refused : &accepted) += 1;
 }
@@ -69,11 +67,11 @@ static void attack_frame(const struct scene *s)
 static int may_come(uint32_t state, uint32_t kind)
 {
     int slice = kind == TANDAWIRE_IBF || kind == TANDAWIRE_IBF_LAST;
-    if (state <= TANDAWIRE_EXPECTING_IBF_LAST)
+    if (state == TANDAWIRE_EXPECTING_IBF || state == TANDAWIRE_EXPECTING_IBF_LAST)
         return slice;
-    if (state <= TANDAWIRE_PASSIVE_DECODING)
+    if (state == TANDAWIRE_ACTIVE_DECODING || state == TANDAWIRE_PASSIVE_DECODING)
         return !slice && (kind != TANDAWIRE_INQUIRY || state == TANDAWIRE_PASSIVE_DECODING);
-    return kind == TANDAWIRE_ELEMENT && state <= TANDAWIRE_FINISH_WAITING;
+    return kind == TANDAWIRE_ELEMENT && state == TANDAWIRE_FINISH_WAITING;
 }
 
 /* Every kind that may not come in a state, as an honest peer would write it. */
@@ -184,19 +182,18 @@ static void attack_offers(void)
     const tandawire_session *active = &scenes[ACTIVE_OFFER].session, *passive = &scenes[PASSIVE_OFFER].session;
     const uint8_t *held = pick(&honest.store, &peer.store, 1)->hash, *wanted = scenes[ACTIVE_OFFER].due.bytes + TANDAWIRE_MESSAGE_HEAD;
     uint8_t junk[TANDAWIRE_HASH_BYTES], sharing[TANDAWIRE_HASH_BYTES];
-    const uint32_t offer = TANDAWIRE_OFFER;
     forge_junk(junk);
     forge_junk(sharing);
     memcpy(sharing, wanted, 8);
-    aborts(active, forge_hashes(&m, offer, wanted, junk), "OFFER: one that we inquired and one that we did not", TANDAWIRE_REFUSED_BREACH);
-    aborts(active, forge_hashes(&m, offer, wanted, sharing), "OFFER: two hashes that share an ID", TANDAWIRE_REFUSED_BREACH);
+    aborts(active, forge_hashes(&m, TANDAWIRE_OFFER, wanted, junk), "OFFER: one that we inquired and one that we did not", TANDAWIRE_REFUSED_BREACH);
+    aborts(active, forge_hashes(&m, TANDAWIRE_OFFER, wanted, sharing), "OFFER: two hashes that share an ID", TANDAWIRE_REFUSED_BREACH);
     aborts(passive, &m, "OFFER: two hashes that share an ID", TANDAWIRE_REFUSED_BREACH);
     memcpy(sharing, held, 8);
-    aborts(passive, forge_hashes(&m, offer, sharing, NULL), "OFFER: a hash that shares its ID with one we hold", TANDAWIRE_REFUSED_BREACH);
-    goes_on(active, forge_hashes(&m, offer, held, held), "OFFER: one that we hold, twice", UNCHANGED);
-    goes_on(active, forge_hashes(&m, offer, wanted, wanted), "OFFER: one that we inquired, twice", WRITTEN);
+    aborts(passive, forge_hashes(&m, TANDAWIRE_OFFER, sharing, NULL), "OFFER: a hash that shares its ID with one we hold", TANDAWIRE_REFUSED_BREACH);
+    goes_on(active, forge_hashes(&m, TANDAWIRE_OFFER, held, held), "OFFER: one that we hold, twice", UNCHANGED);
+    goes_on(active, forge_hashes(&m, TANDAWIRE_OFFER, wanted, wanted), "OFFER: one that we inquired, twice", WRITTEN);
     goes_on(&after, &m, "OFFER: the same once more", UNCHANGED);
-    aborts(active, forge_begin(&m, offer), "OFFER: of no hash", TANDAWIRE_REFUSED_MALFORMED);
+    aborts(active, forge_begin(&m, TANDAWIRE_OFFER), "OFFER: of no hash", TANDAWIRE_REFUSED_MALFORMED);
     aborts(active, forge_bytes(&m, junk, TANDAWIRE_HASH_BYTES - 1), "OFFER: of a hash of 63 bytes", TANDAWIRE_REFUSED_MALFORMED);
 }
 
@@ -265,8 +262,7 @@ static void attack_early_done(void)
     forge_hashes(&m, TANDAWIRE_DONE, sum, NULL);
     attack(first, &m, "DONE: at once, the checksum our own", TANDAWIRE_REFUSED_NONE, TANDAWIRE_FINISHED, WRITTEN);
     attack(owes, &m, "DONE: elements are owed, the checksum wrong", TANDAWIRE_REFUSED_NONE, TANDAWIRE_FINISH_WAITING, WRITTEN);
-    size_t owed = after.numbers.demanded;
-    for (size_t i = 0; owed && i < peer.store.number; i++) {
+    for (size_t i = 0, owed = after.numbers.demanded; owed && i < peer.store.number; i++) {
         const struct element *e = &peer.store.elements[i];
         if (store_find(&honest.store, e->hash))
             continue;
@@ -298,6 +294,12 @@ static void attack_all(void)
     attack_done(&scenes[ACTIVE_DONE]);
     attack_done(&scenes[PASSIVE_DONE]);
     attack_early_done();
+    /* 4 and 8 are no states. No step answers them: here the caller has spoilt its session, not the peer. */
+    for (uint32_t number = 4; number <= 8; number += 4) {
+        after = scenes[WAITING_ELEMENT].session;
+        after.numbers.state = number;
+        attack(&after, &scenes[WAITING_ELEMENT].due, "ELEMENT: an honest one, in a state that there is not", TANDAWIRE_REFUSED_FORM, number, UNCHANGED);
+    }
 }
 
 /* ---- Chance ---- */
@@ -387,7 +389,7 @@ int main(int argc, char **argv)
                  memcmp(both.table, honest.store.table, sizeof both.table) == 0 && memcmp(both.table, peer.store.table, sizeof both.table) == 0;
     printf("%u attacks: %u accepted as harmless, %u refused, %u not answered as they should be. The honest store is %s. "
            "After all this an honest session %s.\n",
-           attacks, accepted, refused, wrong, kept ? "unchanged but for elements that it asked for" : "NOT WHAT IT WAS",
+           accepted + refused, accepted, refused, wrong, kept ? "unchanged but for elements that it asked for" : "NOT WHAT IT WAS",
            united ? "still ends with the union" : "DOES NOT END WITH THE UNION");
     store_free(&honest.store);
     store_free(&peer.store);

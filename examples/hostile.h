@@ -378,11 +378,12 @@ static inline enum memory judge(const uint8_t *message, size_t length, tandawire
 }
 
 /* Whether an answer is one that a state may have to anything at all. 1, 2 and 3 are faults of the
- * caller: nothing that a peer sends may bring them about. */
+ * caller: nothing that a peer sends may bring them about. A number that is no state's is such a fault. */
 static inline int lawful(uint32_t was, tandawire_stepped a)
 {
-    if (was >= TANDAWIRE_FINISHED)
-        return a.refusal == TANDAWIRE_REFUSED_OUT_OF_TURN && a.next.state == was && a.sent + a.due == 0;
+    int over = was == TANDAWIRE_FINISHED || was == TANDAWIRE_ABORTED, none = !strcmp(tandawire_state_text(was), "unknown state");
+    if (over || none)
+        return a.refusal == (over ? TANDAWIRE_REFUSED_OUT_OF_TURN : TANDAWIRE_REFUSED_FORM) && a.next.state == was && a.sent + a.due == 0;
     if (a.refusal == TANDAWIRE_REFUSED_NONE)
         return a.next.state != TANDAWIRE_ABORTED;
     if (a.refusal == TANDAWIRE_REFUSED_FALSE)

@@ -51,8 +51,8 @@ extern "C" {
 
 /* The version of this header, as text and as major * 10,000 + minor * 100 + patch; and that of the
  * archive that is linked. A program can hold one to the other. */
-#define TANDAWIRE_VERSION "0.2.1"
-#define TANDAWIRE_VERSION_NUMBER 201
+#define TANDAWIRE_VERSION "0.3.0"
+#define TANDAWIRE_VERSION_NUMBER 300
 uint32_t tandawire_version(void);
 
 #define TANDAWIRE_HASH_BYTES 64
@@ -90,7 +90,8 @@ uint32_t tandawire_version(void);
 #define TANDAWIRE_DONE 568
 
 /* A session: the least sizes of what is lent to a step, where things stand in it, the bits of a mark,
- * how many swaps an end may make, and the states. */
+ * how many swaps an end may make, and the states. There is no state 4: it is refused with 1, as is 8 and
+ * above. */
 #define TANDAWIRE_RECORDS_BYTES 262208
 #define TANDAWIRE_FAR_CHECKSUM 262144      /* in records: where the far end's checksum begins */
 #define TANDAWIRE_MARKS_BYTES 8192
@@ -107,7 +108,6 @@ uint32_t tandawire_version(void);
 #define TANDAWIRE_EXPECTING_IBF_LAST 1
 #define TANDAWIRE_ACTIVE_DECODING 2
 #define TANDAWIRE_PASSIVE_DECODING 3
-#define TANDAWIRE_FINISH_CLOSING 4
 #define TANDAWIRE_FINISH_WAITING 5
 #define TANDAWIRE_FINISHED 6
 #define TANDAWIRE_ABORTED 7

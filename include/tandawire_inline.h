@@ -66,8 +66,8 @@ static inline const char *tandawire_refusal_text(uint32_t refusal)
 static inline const char *tandawire_state_text(uint32_t state)
 {
     static const char *const texts[] = {
-        "Expecting IBF",  "Expecting IBF Last", "Active Decoding", "Passive Decoding",
-        "Finish Closing", "Finish Waiting",     "Finished",        "Aborted",
+        "Expecting IBF", "Expecting IBF Last", "Active Decoding", "Passive Decoding",
+        "unknown state", "Finish Waiting",     "Finished",        "Aborted",
     };
     return state < sizeof texts / sizeof texts[0] ? texts[state] : "unknown state";
 }
@@ -211,7 +211,7 @@ static inline tandawire_stepped tandawire_session_step(tandawire_session *s, con
 /* Whether the session has ended, Finished or Aborted. */
 static inline int tandawire_session_is_over(const tandawire_session *s)
 {
-    return s->numbers.state >= TANDAWIRE_FINISHED;
+    return s->numbers.state == TANDAWIRE_FINISHED || s->numbers.state == TANDAWIRE_ABORTED;
 }
 
 /* Whether it has ended well: the far end's checksum of what it holds was ours. */

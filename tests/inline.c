@@ -16,19 +16,21 @@ static void expect_text(const char *what, const char *got, const char *wanted)
 
 static void expect_texts(void)
 {
+    static const char *const states[] = {"Expecting IBF",  "Expecting IBF Last", "Active Decoding", "Passive Decoding", "unknown state",
+                                         "Finish Waiting", "Finished",           "Aborted",         "unknown state",    "unknown state"};
     for (uint32_t i = 0; i <= TANDAWIRE_REFUSED_LIMIT; i++)
         for (uint32_t j = 0; j <= TANDAWIRE_REFUSED_LIMIT + 1; j++)
             expect("refusals, a text of its own", !strcmp(tandawire_refusal_text(i), tandawire_refusal_text(j)), i == j);
     expect_text("refusal 4", tandawire_refusal_text(TANDAWIRE_REFUSED_MALFORMED), "a malformed message");
     expect_text("refusal 10", tandawire_refusal_text(TANDAWIRE_REFUSED_LIMIT), "too many elements");
     expect_text("refusal 11", tandawire_refusal_text(TANDAWIRE_REFUSED_LIMIT + 1), "unknown refusal");
-    expect_text("state 0", tandawire_state_text(TANDAWIRE_EXPECTING_IBF), "Expecting IBF");
-    expect_text("state 7", tandawire_state_text(TANDAWIRE_ABORTED), "Aborted");
-    expect_text("state 8", tandawire_state_text(TANDAWIRE_ABORTED + 1), "unknown state");
+    for (uint32_t state = 0; state < sizeof states / sizeof states[0]; state++)
+        expect_text("state", tandawire_state_text(state), states[state]);
+    expect_text("state 2^32 - 1", tandawire_state_text(UINT32_MAX), "unknown state");
     expect_text("kind 566", tandawire_kind_text(TANDAWIRE_ELEMENT), "ELEMENT");
     expect_text("kind 0", tandawire_kind_text(TANDAWIRE_MALFORMED), "malformed");
     expect_text("kind 564", tandawire_kind_text(564), "unknown kind");
-    expect_text("version", TANDAWIRE_VERSION, "0.2.1");
+    expect_text("version", TANDAWIRE_VERSION, "0.3.0");
     expect("version, of header and archive", tandawire_version(), TANDAWIRE_VERSION_NUMBER);
 }
 
@@ -52,6 +54,16 @@ static void expect_stream(void)
     expect("content, a part of the message", part.bytes == element + 4 && part.length == 1, 1);
     expect("content, cut", tandawire_element_content(element, 4).bytes == NULL, 1);
     expect("content, of nothing", tandawire_element_content(NULL, 0).length, 0);
+}
+
+/* Over is Finished or Aborted: no other state, and no number that is none. */
+static void expect_over(void)
+{
+    for (uint32_t state = 0; state < 10; state++) {
+        session.numbers.state = state;
+        expect("over, by its state", (size_t)tandawire_session_is_over(&session), state == 6 || state == 7);
+        expect("finished, by its state", (size_t)tandawire_session_is_finished(&session), state == 6);
+    }
 }
 
 /* A start that is refused leaves a session that is over and holds nothing (tandawire_session_begin). */
@@ -157,6 +169,7 @@ int main(void)
     test = "inline";
     expect_texts();
     expect_stream();
+    expect_over();
     expect_refused_starts();
     expect_unions();
     expect_filters();

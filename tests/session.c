@@ -6,7 +6,7 @@
 
 enum { HASH = TANDAWIRE_HASH_BYTES, ALL = TANDAWIRE_MOST_ELEMENTS };
 
-static tandawire_session anna, bert, saved;
+static tandawire_session anna, bert, saved, given, left;
 static uint8_t anna_table[ALL * HASH], bert_table[ALL * HASH], line[1 << 20], held[2][ALL * HASH];
 
 /* ---- Layout ---- */
@@ -135,6 +135,54 @@ static tandawire_stepped take_element(tandawire_session *to, uint64_t id)
     return tandawire_session_step(to, message, length, hash);
 }
 
+/* Hands a DONE that names a checksum to a copy of a session, where it sends nothing and writes nothing. */
+static void expect_done(const tandawire_session *s, uint64_t check, uint32_t refusal, uint32_t state)
+{
+    uint8_t done[TANDAWIRE_DONE_BYTES] = {0, TANDAWIRE_DONE_BYTES, TANDAWIRE_DONE >> 8, TANDAWIRE_DONE & 255};
+    put_hash(done + TANDAWIRE_MESSAGE_HEAD, check);
+    memcpy(&left, s, sizeof left);
+    tandawire_stepped a = tandawire_session_step(&left, done, sizeof done, NULL);
+    expect("DONE, refusal", a.refusal, refusal);
+    expect("DONE, state", a.next.state, state);
+    expect("DONE, nothing goes", a.sent + a.due, 0);
+    left.numbers.state = s->numbers.state;
+    expect("DONE, nothing else changes", (size_t)memcmp(&left, s, sizeof left), 0);
+}
+
+/* A session with a number that is no state's: refused with 1 before anything else is asked, with rooms and with none. */
+static void expect_no_state(const tandawire_session *s, uint32_t state, const uint8_t *message, size_t length)
+{
+    uint8_t hash[HASH];
+    put_hash(hash, 8);
+    memcpy(&given, s, sizeof given);
+    given.numbers.state = state;
+    for (size_t all = 0; all <= 1; all++) {
+        const size_t places = all * ALL;
+        memcpy(&left, &given, sizeof left);
+        tandawire_stepped a = tandawire_step(left.numbers, left.table, left.table_length, left.records, all * sizeof left.records, left.marks,
+                                             all * sizeof left.marks, left.inquired, places, left.ids, places, left.hashes, places, left.counts, places,
+                                             left.ours, places, left.theirs, places, hash, all * sizeof hash, message, length, left.out,
+                                             all * sizeof left.out);
+        expect("no state, refusal", a.refusal, TANDAWIRE_REFUSED_FORM);
+        expect("no state, nothing goes", a.sent + a.due, 0);
+        expect("no state, the numbers given", (size_t)memcmp(&a.next, &given.numbers, sizeof a.next), 0);
+        expect("no state, memory", (size_t)memcmp(&left, &given, sizeof left), 0);
+    }
+}
+
+/* The states are 0 to 3 and 5 to 7: each other number, with a message that is due, with one that is not, and with none. */
+static void expect_no_states(const tandawire_session *s)
+{
+    static const uint32_t numbers[] = {4, 8, 9, UINT32_MAX};
+    const uint8_t element[] = {0, 5, TANDAWIRE_ELEMENT >> 8, TANDAWIRE_ELEMENT & 255, 42};
+    const uint8_t done[TANDAWIRE_DONE_BYTES] = {0, TANDAWIRE_DONE_BYTES, TANDAWIRE_DONE >> 8, TANDAWIRE_DONE & 255};
+    for (size_t i = 0; i < sizeof numbers / sizeof numbers[0]; i++) {
+        expect_no_state(s, numbers[i], element, sizeof element);
+        expect_no_state(s, numbers[i], done, sizeof done);
+        expect_no_state(s, numbers[i], element, 1);
+    }
+}
+
 /* Anna holds 1 to 6 and sends; Bert holds 5 to 9 and asks for 1 to 4. */
 static size_t expect_opening(void)
 {
@@ -155,6 +203,8 @@ static size_t expect_opening(void)
     expect_listed("opened, the list ours", bert.ours, 101, 7, 3);
     expect_listed("opened, the list theirs", bert.theirs, 101, 1, 4);
     expect("opened, marks", bert.marks[2], TANDAWIRE_MARK_OFFERED);
+    expect_done(&bert, 5 ^ 6 ^ 7 ^ 8 ^ 9, TANDAWIRE_REFUSED_OUT_OF_TURN, TANDAWIRE_ABORTED); /* ours has not gone */
+    expect_no_states(&bert);
     memcpy(line, bert.out, b.sent);
     return b.sent;
 }
@@ -181,8 +231,9 @@ static void expect_lists(size_t sent)
 }
 
 /* The elements, and DONE: Bert's comes to Anna before her last elements, so that she waits with his checksum. */
-static void expect_closing(void)
+static void expect_end(void)
 {
+    const uint64_t all = 1 ^ 2 ^ 3 ^ 4 ^ 5 ^ 6 ^ 7 ^ 8 ^ 9;
     tandawire_stepped a, b = {0, 0, 0, {0, 0, 0, 0, 0, 0, 0, 0, 0}};
     for (uint64_t id = 1; id <= 4; id++) {
         expect("element, mark before", bert.marks[TANDAWIRE_RECORD_MARKS + id - 1], 0);
@@ -192,12 +243,22 @@ static void expect_closing(void)
     }
     expect("done, went", b.next.done, 1);
     expect("done, sent", b.sent, TANDAWIRE_DONE_BYTES);
+    expect_done(&bert, all, TANDAWIRE_REFUSED_NONE, TANDAWIRE_FINISHED);
+    expect_done(&bert, all ^ 1, TANDAWIRE_REFUSED_CHECKSUM, TANDAWIRE_ABORTED);
     a = take(&anna, bert.out, 0, b.sent, TANDAWIRE_DONE);
     expect("done, she waits", a.next.state, TANDAWIRE_FINISH_WAITING);
-    expect("done, the checksum kept", anna.records[TANDAWIRE_FAR_CHECKSUM + 7], 1 ^ 2 ^ 3 ^ 4 ^ 5 ^ 6 ^ 7 ^ 8 ^ 9);
+    expect("done, the checksum kept", anna.records[TANDAWIRE_FAR_CHECKSUM + 7], all);
     take_element(&anna, 9);
-    take_element(&anna, 7);
+    a = take_element(&anna, 7);
+    expect("not the last element, state", a.next.state, TANDAWIRE_FINISH_WAITING);
+    expect("not the last element, sent", a.sent, 0);
+    expect_done(&anna, all, TANDAWIRE_REFUSED_OUT_OF_TURN, TANDAWIRE_ABORTED);
+    expect_no_states(&anna);
     saved = anna;
+    saved.records[TANDAWIRE_FAR_CHECKSUM + 7] ^= 1;
+    a = take_element(&saved, 8);
+    expect("last element, another checksum", a.refusal, TANDAWIRE_REFUSED_CHECKSUM);
+    expect("last element, not gained", (size_t)memcmp(saved.marks, anna.marks, sizeof anna.marks), 0);
     a = take_element(&anna, 8);
     expect("last element, state", a.next.state, TANDAWIRE_FINISHED);
     expect("last element, sent", a.sent, TANDAWIRE_DONE_BYTES);
@@ -207,10 +268,7 @@ static void expect_closing(void)
     expect("union, bytes", one, 9 * HASH);
     expect("union, the same", one == two && !memcmp(held[0], held[1], one), 1);
     expect("after the end", take(&bert, anna.out, 0, a.sent, TANDAWIRE_DONE).refusal, TANDAWIRE_REFUSED_OUT_OF_TURN);
-    saved.numbers.state = TANDAWIRE_FINISH_CLOSING; /* as Finish Waiting, but that no DONE goes */
-    a = take_element(&saved, 8);
-    expect("closing, state", a.next.state, TANDAWIRE_FINISHED);
-    expect("closing, sent", a.sent, 0);
+    expect_no_states(&bert);
 }
 
 /* ---- Swaps and limits ---- */
@@ -276,7 +334,7 @@ static void *run(void *nothing)
     expect_numbers();
     expect_short_ledgers();
     expect_lists(expect_opening());
-    expect_closing();
+    expect_end();
     expect_swaps();
     expect_limits();
     return nothing;

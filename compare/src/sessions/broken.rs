@@ -4,7 +4,7 @@ use super::calls::Compared;
 use super::counts::row;
 use super::craft::new_hash;
 use super::ledger::Hash;
-use super::ledgers::{some_parts, Good, ROWS};
+use super::ledgers::{each_row, some_parts, Good, ROWS};
 use super::memory::{set, Memory, Numbers, DEMANDED_MARKS};
 use crate::filters::{id_of, HASH};
 use crate::random::Random;
@@ -43,7 +43,7 @@ fn number(random: &mut Random, good: &mut Good, _: &mut Memory) -> Option<()> {
         ..
     } = &mut good.numbers;
     match random.below(10) {
-        0 => *state = random.pick(&[8, 9, huge, u32::MAX]),
+        0 => *state = random.pick(&[4, 4, 8, 9, 10, huge]),
         1 => *first = random.pick(&[2, 2, 3, huge]),
         2 => *done = random.pick(&[2, 2, 3, huge]),
         3 => *size = random.pick(&[36, 0, 4097, huge]),
@@ -236,7 +236,7 @@ fn one_clause(tally: &mut Tally) {
     let mut broken = 0;
     for i in 0..12_000 {
         let parts = some_parts(random);
-        let mut good = Good::new(random, ROWS[i % 9], parts);
+        let mut good = Good::new(random, ROWS[i % ROWS.len()], parts);
         let delivery = good.message(random);
         let mut memory = good.memory(random);
         let breaking = random.pick(&BREAKS);
@@ -253,7 +253,7 @@ fn one_clause(tally: &mut Tally) {
 fn too_many(tally: &mut Tally) {
     let mut random = tally.subject("ledgers at the limit", 0x232);
     let random = &mut random;
-    for (i, row_of) in ROWS.into_iter().cycle().take(108).enumerate() {
+    for (row_of, i) in each_row(12) {
         if row_of.0 < 2 || row_of == (3, 1) {
             continue;
         }
@@ -295,7 +295,7 @@ fn any_way(tally: &mut Tally) {
     let random = &mut random;
     for i in 0..6_000 {
         let parts = some_parts(random);
-        let mut good = Good::new(random, ROWS[i % 9], parts);
+        let mut good = Good::new(random, ROWS[i % ROWS.len()], parts);
         let delivery = good.message(random);
         let mut memory = good.memory(random);
         match random.below(6) {
@@ -313,7 +313,7 @@ fn any_way(tally: &mut Tally) {
             }
             2 => good.numbers.demanded = random.pick(&[0, 1, 2, 4096]),
             3 => good.numbers.inquired = random.pick(&[0, 1, 2, 4096]),
-            4 => good.numbers.state = random.below(9) as u32,
+            4 => good.numbers.state = random.below(11) as u32,
             _ => {
                 for _ in 0..random.between(2, 4) {
                     let breaking = random.pick(&BREAKS);

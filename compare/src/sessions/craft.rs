@@ -86,7 +86,7 @@ pub fn new_hash(random: &mut Random, id: u64) -> Hash {
 }
 
 /// Another hash that differs in one bit, most often of its ID or of its end.
-fn near(random: &mut Random, hash: &Hash) -> Hash {
+pub fn near(random: &mut Random, hash: &Hash) -> Hash {
     let any = random.below(64) as usize;
     let at = random.pick(&[0, 7, 8, 63, 63, any]);
     let mut hash = *hash;

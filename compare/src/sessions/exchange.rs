@@ -2,7 +2,7 @@
 
 use super::ledger::{hashes_of, Hash, Ledger};
 use super::memory::Numbers;
-use super::step::Why;
+use super::step::{Why, FINISHED};
 use crate::filters::{id_of, MOST_HASHES};
 use crate::messages::layout::Message;
 use crate::messages::writers;
@@ -160,21 +160,22 @@ impl Session {
                 self.numbers.done = 1;
                 due(self.our_done(), "element, DONE due")
             }
-            4 | 5 if last => self.compare(self.far, "the last element"),
+            5 if last => self.compare(self.far, "the last element"),
             _ => due(Vec::new(), "element"),
         }
     }
 
+    /// In 2 it is compared once ours has gone; in 3 once no demand is unmet, and kept till then.
     fn done(&mut self, check: Hash) -> Result<Due, (u32, Why)> {
-        if self.numbers.state == 2 && self.numbers.done == 0 {
-            return Err((5, "DONE too early"));
+        match self.numbers.state {
+            2 if self.numbers.done == 0 => Err((5, "DONE too early")),
+            3 if !self.ledger.unmet().is_empty() => {
+                self.far = check;
+                self.numbers.state = 5;
+                due(Vec::new(), "DONE, a demand unmet")
+            }
+            _ => self.compare(check, "DONE"),
         }
-        if !self.ledger.unmet().is_empty() {
-            self.far = check;
-            self.numbers.state = if self.numbers.state == 2 { 4 } else { 5 };
-            return due(Vec::new(), "DONE, a demand unmet");
-        }
-        self.compare(check, "DONE")
     }
 
     /// Equal checksums end the session; from 3 and 5 our DONE goes before.
@@ -183,7 +184,7 @@ impl Session {
             return Err((8, why));
         }
         let sends = matches!(self.numbers.state, 3 | 5);
-        self.numbers.state = 6;
+        self.numbers.state = FINISHED;
         if !sends {
             return due(Vec::new(), why);
         }

@@ -2,6 +2,7 @@
 
 use super::ledger::{Ledger, There, MET};
 use super::memory::{Lent, Numbers, DEMANDED_MARKS};
+use super::step::is_state;
 use crate::filters::{id_of, is_table, range_is_good, MOST_COUNT, MOST_HASHES};
 use std::collections::BTreeSet;
 
@@ -55,7 +56,7 @@ fn of_ranges(numbers: &Numbers, lent: &Lent) -> Vec<&'static str> {
     let columns = numbers.state != 1 || judged.all(|count| (0..=MOST_COUNT).contains(count));
     broken(&[
         ("table", is_table(lent.table)),
-        ("state", numbers.state <= 7),
+        ("state", is_state(numbers.state)),
         ("first", numbers.first <= 1),
         ("done", numbers.done <= 1),
         ("demanded", numbers.demanded as usize <= MOST_HASHES),

@@ -6,7 +6,7 @@ use super::craft::{Known, Trick, BAD, GOOD};
 use super::honest::{pair_of, some_shape, Shape};
 use super::peer::Peer;
 use super::slices::{BEFORE, BETWEEN};
-use super::step::may_come;
+use super::step::{has_ended, may_come};
 use crate::filters::HASH;
 use crate::messages::layout;
 use crate::model;
@@ -36,8 +36,7 @@ pub fn made_up(random: &mut Random, known: &Known) -> Delivery {
             continue;
         };
         let kind = layout::read(&delivery.bytes).kind;
-        let ended = known.numbers.state > 5;
-        if ended || may_come(&known.numbers, kind) || random.once_in(6) {
+        if has_ended(&known.numbers) || may_come(&known.numbers, kind) || random.once_in(6) {
             return delivery;
         }
     }

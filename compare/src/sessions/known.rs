@@ -6,6 +6,7 @@ use super::ledger::{Hash, Ledger};
 use super::ledgers::Good;
 use super::memory::{Numbers, Step, FAR};
 use super::peer::Peer;
+use super::step::refused;
 use crate::filters::{Filter, HASH};
 use crate::messages::layout::{framed, Message, Slice, DONE, IBF};
 use crate::messages::writers;
@@ -185,7 +186,7 @@ impl Steps<'_> {
 
     fn slices(&mut self) {
         let last = filter(&[], 2521, 4);
-        for (state, first, wanted) in [(0, 0, 4), (2, 0, 5), (3, 1, 4), (3, 0, 5), (4, 0, 5)] {
+        for (state, first, wanted) in [(0, 0, 4), (2, 0, 5), (3, 1, 4), (3, 0, 5), (5, 0, 5)] {
             self.takes(&in_state(state, first), &last, [wanted, 7]);
         }
         // The first message in 3 ends it, though all of it was ignored.
@@ -331,27 +332,24 @@ impl Steps<'_> {
         let (step, mut compared) = self.takes(&demanding(3), &done(then), [0, 5]);
         assert!(step.sent == 0 && step.next.done == 0);
         assert!(lent(&mut compared.model.records)[FAR..FAR + HASH] == then);
-        for state in [4, 5] {
-            let mut last = demanding(state);
-            last.far = then;
-            let (step, mut compared) = self.takes_element(&last, h(50, 1), [0, 6]);
-            let sent = if state == 5 {
-                done(then).bytes()
-            } else {
-                Vec::new()
-            };
-            assert!(compared.out(step.sent) == sent);
-            last.far = now;
-            let (step, mut compared) = self.takes_element(&last, h(50, 1), [8, 7]);
-            assert!(compared.ledger(&step.next).gained.is_empty());
-        }
+        let mut last = demanding(5);
+        last.far = then;
+        let (step, mut compared) = self.takes_element(&last, h(50, 1), [0, 6]);
+        assert!(step.next.done == 1 && compared.out(step.sent) == done(then).bytes());
+        last.far = now;
+        let (step, mut compared) = self.takes_element(&last, h(50, 1), [8, 7]);
+        assert!(compared.ledger(&step.next).gained.is_empty());
     }
 
     fn forms(&mut self) {
         let zeros = done([0; HASH]);
-        let mut good = in_state(3, 0);
-        good.numbers.state = 8;
-        self.takes(&good, &zeros, [1, 8]);
+        // No state: told before what is short, and before what comes is looked at.
+        for state in [4, 8, 9, 10, u32::MAX] {
+            let (step, _) = self.takes(&in_state(state, 0), &zeros, [1, state]);
+            assert!(step == refused(1, in_state(state, 0).numbers));
+            self.bytes(&in_state(state, 0), Vec::new(), &[], [1, state]);
+            self.takes_element(&demanding(state), h(50, 1), [1, state]);
+        }
         // Offered before the first message; a demand or a gain that is in the table.
         let offered = |ledger: &mut Ledger| ledger.offered = [h(1, 7)].into();
         self.takes(&with(in_state(3, 1), offered), &zeros, [1, 3]);

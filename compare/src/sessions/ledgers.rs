@@ -5,6 +5,7 @@ use super::craft::{shuffle, some_of, Known};
 use super::hostile::{damaged, made_up};
 use super::ledger::{hashes_of, xor, Hash, Ledger};
 use super::memory::{Memory, Numbers, FAR, PLACES};
+use super::step::has_ended;
 use crate::filters::{id_of, HASH, MOST_COUNT};
 use crate::random::Random;
 use crate::sets::{some_ids, some_salt, some_size, table_of};
@@ -17,17 +18,22 @@ pub fn compare(tally: &mut Tally) {
 }
 
 /// The states, and 3 before and after its first message.
-pub const ROWS: [(u32, u32); 9] = [
+pub const ROWS: [(u32, u32); 8] = [
     (0, 0),
     (1, 0),
     (2, 0),
     (3, 0),
     (3, 1),
-    (4, 0),
     (5, 0),
     (6, 0),
     (7, 0),
 ];
+
+/// Each of them so many times, with the number of the time.
+pub fn each_row(times: usize) -> impl Iterator<Item = ((u32, u32), usize)> {
+    let with_times = move |row| (0..times).map(move |i| (row, i));
+    ROWS.into_iter().flat_map(with_times)
+}
 
 /// Numbers and a ledger of good form.
 #[derive(Clone)]
@@ -188,10 +194,10 @@ fn any_message(tally: &mut Tally) {
     let random = &mut random;
     for i in 0..5_000 {
         let parts = some_parts(random);
-        let good = Good::new(random, ROWS[i % 9], parts);
+        let good = Good::new(random, ROWS[i % ROWS.len()], parts);
         let mut compared = good.compared(random);
         assert!(compared.ledger(&good.numbers) == good.ledger);
-        for _ in 0..if good.numbers.state < 6 { 8 } else { 1 } {
+        for _ in 0..if has_ended(&good.numbers) { 1 } else { 8 } {
             let delivery = good.message(random);
             let (step, _) = compared.trial(tally, random, good.numbers, &delivery);
             assert!(step.refusal != 1 && step.refusal != 2, "{:?}", good.numbers);

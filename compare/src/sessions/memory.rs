@@ -62,6 +62,24 @@ pub struct Lent<'a> {
 pub type Rooms = [(&'static str, usize, usize); 10];
 
 impl Lent<'_> {
+    /// The same, lent once more.
+    pub fn again(&mut self) -> Lent<'_> {
+        Lent {
+            table: &mut *self.table,
+            records: &mut *self.records,
+            marks: &mut *self.marks,
+            inquired: &mut *self.inquired,
+            ids: &mut *self.ids,
+            hashes: &mut *self.hashes,
+            counts: &mut *self.counts,
+            ours: &mut *self.ours,
+            theirs: &mut *self.theirs,
+            hash: &mut *self.hash,
+            message: &mut *self.message,
+            out: &mut *self.out,
+        }
+    }
+
     pub fn rooms(&self) -> Rooms {
         [
             ("records", self.records.len(), RECORDS),

@@ -7,7 +7,7 @@ mod counts;
 mod deliveries;
 pub mod fixture;
 pub mod ledgers;
-mod lengths;
+pub mod lengths;
 
 use super::calls::Delivery;
 use super::craft::{new_hash, Known, GOOD};
@@ -17,7 +17,7 @@ use super::ledger::Hash;
 use super::ledgers::{some_parts, Good, ROWS};
 use super::memory::Numbers;
 use super::slices::{messages_of, BEFORE, BETWEEN};
-use super::step::may_come;
+use super::step::{has_ended, may_come};
 use crate::filters::{id_of, Filter};
 use crate::messages::layout::{self, Message};
 use crate::random::Random;
@@ -139,15 +139,15 @@ fn rounds(
         if i == 0 {
             deliveries.extend(given.iter().cloned());
         }
-        let has_ended = fixture.numbers.state > 5;
-        let calls = if has_ended { 8 } else { random.between(10, 50) };
+        let ended = has_ended(&fixture.numbers);
+        let calls = if ended { 8 } else { random.between(10, 50) };
         for _ in 0..calls {
             if run.counts.are_made() || one(tally, random, run, fixture, &deliveries) {
                 break;
             }
         }
         remember(random, run, deliveries);
-        if has_ended {
+        if ended {
             break;
         }
     }
@@ -172,7 +172,7 @@ fn good(random: &mut Random, known: &Known) -> Option<Delivery> {
         };
         let delivery = trick(random, known)?;
         let kind = layout::read(&delivery.bytes).kind;
-        (known.numbers.state > 5 || may_come(&known.numbers, kind)).then_some(delivery)
+        (has_ended(&known.numbers) || may_come(&known.numbers, kind)).then_some(delivery)
     })
 }
 

@@ -89,7 +89,7 @@ fn short_and_broken(tally: &mut Tally) {
             let mark = random.pick(&[0, good.ledger.table.len().max(1) - 1]);
             match i {
                 0 => good.numbers.salt = 64,
-                1 => good.numbers.state = 8,
+                1 => good.numbers.state = random.pick(&[4, 8]),
                 2 => memory.table.push(1),
                 // The ledger's memory: a mark, an order, a record that is not there.
                 3 | 4 => lent(&mut memory.marks)[mark] = 8,

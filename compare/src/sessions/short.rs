@@ -299,7 +299,7 @@ fn any_way(tally: &mut Tally) {
     let mut given = [0; 3];
     for i in 0..540 {
         let parts = some_parts(random);
-        let mut bed = Bed::new(random, ROWS[i % 9], parts);
+        let mut bed = Bed::new(random, ROWS[i % ROWS.len()], parts);
         for _ in 0..40 {
             let mut numbers = bed.good.numbers;
             let mut kinds = Vec::new();

@@ -1,7 +1,10 @@
-//! Stand-ins for the library, each with one fault where a part of a ledger is lent: the comparison
-//! must find each of them, and none where there is no fault.
+//! Stand-ins for the library, each with one fault: the comparison must find each of them, and none
+//! where there is no fault.
 //!
-//! Where the ledger has its room a stand-in is the library itself.
+//! Those here have it where a part of a ledger is lent; where the ledger has its room they are the
+//! library itself. states.rs has the others.
+
+mod states;
 
 use super::form::breaches_in;
 use super::ledger::There;
@@ -340,26 +343,42 @@ const FAULTS: &[(&str, StandIn)] = &[
     ("refusal 2 clears marks", clears_marks),
 ];
 
+/// The comparisons that must find these faults.
+fn inputs(tally: &mut Tally) {
+    short::compare(tally);
+    rooms::compare(tally);
+}
+
+/// Stand-ins whose faults are of one sort: one without, those with one, and what must find them.
+type Sort = (StandIn, &'static [(&'static str, StandIn)], fn(&mut Tally));
+
+const SORTS: [Sort; 2] = [
+    (NO_FAULT, FAULTS, inputs),
+    (states::NO_FAULT, states::FAULTS, states::inputs),
+];
+
 /// The differences that are found with this one in the place of the library.
-fn found(mut tally: Tally, stand_in: StandIn) -> u64 {
+fn found(mut tally: Tally, stand_in: StandIn, inputs: fn(&mut Tally)) -> u64 {
     tally.gathered.quiet = true;
     tally.gathered.begin();
     tally.sessions.library = stand_in;
-    short::compare(&mut tally);
-    rooms::compare(&mut tally);
+    inputs(&mut tally);
     tally.gathered.total()
 }
 
 /// Whether each stand-in with a fault is found, and none without.
 pub fn are_caught(begin: fn() -> Tally) -> bool {
-    let without_fault = found(begin(), NO_FAULT);
-    println!("no fault: {without_fault} differences");
-    let mut caught = without_fault == 0;
-    for &(name, stand_in) in FAULTS {
-        let differences = found(begin(), stand_in);
-        println!("{name}: {differences} differences");
-        caught &= differences > 0;
+    let mut caught = true;
+    for (no_fault, faults, inputs) in SORTS {
+        let without_fault = found(begin(), no_fault, inputs);
+        println!("no fault: {without_fault} differences");
+        caught &= without_fault == 0;
+        for &(name, stand_in) in faults {
+            let differences = found(begin(), stand_in, inputs);
+            println!("{name}: {differences} differences");
+            caught &= differences > 0;
+        }
+        println!("{} stand-ins with a fault", faults.len());
     }
-    println!("{} stand-ins with a fault", FAULTS.len());
     caught
 }

@@ -1,5 +1,6 @@
-//! A step of a session (document 01) in plain Rust: the grid, the refusals in their order, and the
-//! messages that carry a filter. Beside each answer stands why it was given, to be counted.
+//! A step of a session (document 01, and 02 Req 04) in plain Rust: the grid, the refusals in their
+//! order, and the messages that carry a filter. Beside each answer stands why it was given, to be
+//! counted.
 
 use super::exchange;
 use super::form;
@@ -14,25 +15,39 @@ use crate::model::Columns;
 
 pub type Why = &'static str;
 
-/// What may come in each state; in 3 IBF and IBF LAST only as the first message since entry.
-const GRID: [&[u32]; 8] = [
-    &[IBF, IBF_LAST],
-    &[IBF, IBF_LAST],
-    &[OFFER, DEMAND, ELEMENT, DONE],
-    &[INQUIRY, OFFER, DEMAND, ELEMENT, DONE, IBF, IBF_LAST],
-    &[ELEMENT],
-    &[ELEMENT],
-    &[],
-    &[],
+/// The states in which a session has ended.
+pub const FINISHED: u32 = 6;
+const ABORTED: u32 = 7;
+
+/// The states, and what may come in each; in 3 IBF and IBF LAST only as the first message since
+/// entry.
+const GRID: [(u32, &[u32]); 7] = [
+    (0, &[IBF, IBF_LAST]),
+    (1, &[IBF, IBF_LAST]),
+    (2, &[OFFER, DEMAND, ELEMENT, DONE]),
+    (3, &[INQUIRY, OFFER, DEMAND, ELEMENT, DONE, IBF, IBF_LAST]),
+    (5, &[ELEMENT]),
+    (FINISHED, &[]),
+    (ABORTED, &[]),
 ];
 
 /// A peer swaps at most so often.
 const MOST_SWAPS: u32 = 16;
 
+pub fn is_state(number: u32) -> bool {
+    GRID.iter().any(|&(state, _)| state == number)
+}
+
+pub fn has_ended(numbers: &Numbers) -> bool {
+    matches!(numbers.state, FINISHED | ABORTED)
+}
+
 pub fn may_come(numbers: &Numbers, kind: u32) -> bool {
+    let mut rows = GRID.iter().filter(|&&(state, _)| state == numbers.state);
+    let (_, row) = rows.next().expect("a state has a row");
     let later = numbers.state == 3 && numbers.first == 0;
     let carries_filter = kind == IBF || kind == IBF_LAST;
-    GRID[numbers.state as usize].contains(&kind) && !(later && carries_filter)
+    row.contains(&kind) && !(later && carries_filter)
 }
 
 /// Not in the grid, by type.
@@ -62,7 +77,7 @@ fn aborted(refusal: u32, numbers: Numbers) -> Step {
     refused(
         refusal,
         Numbers {
-            state: 7,
+            state: ABORTED,
             ..numbers
         },
     )
@@ -81,7 +96,7 @@ pub fn step(numbers: Numbers, mut lent: Lent) -> (Step, Why) {
         (Some((name, ..)), None) => return (refused(2, numbers), name),
         _ => return (refused(2, numbers), "several slices"),
     }
-    if numbers.state == 6 || numbers.state == 7 {
+    if has_ended(&numbers) {
         return (refused(5, numbers), "ended");
     }
     let Some(message) = layout::parse(lent.message) else {

@@ -6,14 +6,14 @@
 use mathlib.Core.Path.{_≡_, refl, sym, ap, _∙_}
 use mathlib.Core.Bool.{Bool, true, false, _&&_, cond, and-assoc}
 use Prim.Native.Nat.{ℕ, _+_, _-_, _*_, _≤_}
-use lib.Dec.{eqb, ltb, leb}
+use lib.Dec.{eqb, leb}
 use lib.ListN.{length, take}
 use Rattle.bucket.specs.Lists.{part}
 use Rattle.filter.specs.Calls.{inRange, areCounts}
 use Rattle.filter.specs.Sets.{implies}
 use Rattle.filter.specs.Table.{firstEight, idsOf, isTable}
 use Rattle.filter.proofs.SetLaws.{and-l}
-use Rattle.ledger.specs.Grid.{EXPECTING-LAST}
+use Rattle.ledger.specs.Grid.{EXPECTING-LAST, isState}
 use Rattle.ledger.specs.Form.{goodNumbers, idle}
 use Rattle.ledger.specs.Calls.{Given, sessionOf, readable, countsNothing, goodFront, there, isWhole, goodBack, goodForm}
 use Rattle.ledger.proofs.GivenLaws.{front-table, front-readable, readable-few}
@@ -38,7 +38,7 @@ module _ (G : Given) where
   front-tie =
       let N = G .numbers in
       ap (λ (b : Bool). isTable firstEight (G .table) && b)
-      (regroup (leb (N .first) 1) (leb (N .done) 1) (leb (N .demanded) 4096) (leb (N .inquired) 4096) (ltb (N .state) 8) (leb (N .swaps) 16) (inRange (N .size) (N .salt))
+      (regroup (leb (N .first) 1) (leb (N .done) 1) (leb (N .demanded) 4096) (leb (N .inquired) 4096) (isState (N .state)) (leb (N .swaps) 16) (inRange (N .size) (N .salt))
       (implies (idle (sessionOf firstEight G)) (countsNothing N)) (implies (eqb (N .state) EXPECTING-LAST) (areCounts 2520 (G .columns .counts))))
 
   module _ (f : front ≡ true) where

@@ -9,6 +9,5 @@ pub mod FormByLaws
 pub mod FormTie
 pub mod TallyLaws
 pub mod JudgedLaws
-pub mod GridLaws
 pub mod SendingLaws
 pub mod StartLaws

@@ -1,17 +1,24 @@
 -- What the functions of numbers compute: rooms, the grid with the order of slices, and how the numbers of a session go on. Nothing here is to be
 -- believed: laws of `session` tie what is made of them to ledger's Calls.
 use mathlib.Core.Bool.{Bool, not, _&&_, cond}
+use mathlib.Core.List.{[], _∷_}
 use Prim.Native.Nat.{ℕ}
 use lib.Dec.{eqb, leb}
+use Rattle.filter.specs.declared.answers.Refusal.the-variants.{Form, Room, OutOfTurn}
+use Rattle.filter.specs.Answers.{refusalNumber, firstOf}
 use Rattle.ledger.specs.declared.numbers.Numbers.{Numbers}
 use Rattle.ledger.specs.declared.numbers.Answer.{Answer}
-use Rattle.ledger.specs.Grid.{EXPECTING-LAST, ACTIVE, PASSIVE, ABORTED, entry}
+use Rattle.ledger.specs.Grid.{EXPECTING-LAST, ACTIVE, PASSIVE, ABORTED, isEnded, entry}
 use Rattle.ledger.specs.Calls.{numbered, answered, inState}
 
 unfoldable pub roomsOf : (records marks inquired ids hashes counts ours theirs hash out : ℕ) → Bool
 roomsOf records marks inquired ids hashes counts ours theirs hash out =
     (leb 262208 records && (leb 8192 marks && leb 4096 inquired))
     && ((leb 4096 ids && (leb 4096 hashes && leb 4096 counts)) && (leb 4096 ours && (leb 4096 theirs && (leb 64 hash && leb 295008 out))))
+
+-- refusals 1 and 2 by their tests, and 5 of a session that has ended
+unfoldable pub earlyOf : (good roomy : Bool) → ℕ → ℕ
+earlyOf good roomy state = refusalNumber (firstOf ((Form, good) ∷ (Room, roomy) ∷ (OutOfTurn, not (isEnded state)) ∷ []))
 
 -- ---- slices
 
@@ -30,15 +37,10 @@ isPlaced N size offset salt width =
 abbrev pub aborted : ℕ → Numbers → Answer
 aborted n N = answered n 0 0 (inState ABORTED N)
 
--- a message has come, the state stays
-abbrev pub onward : Numbers → Numbers
-onward N = numbered (N .state) 0 (N .size) (N .salt) (N .width) (N .swaps) (N .done) (N .demanded) (N .inquired)
-
-abbrev pub withDemanded : Numbers → ℕ → Numbers
-withDemanded N n = numbered (N .state) 0 (N .size) (N .salt) (N .width) (N .swaps) (N .done) n (N .inquired)
-
-abbrev pub closed : Numbers → ℕ → ℕ → Numbers
-closed N state went = numbered state 0 (N .size) (N .salt) (N .width) (N .swaps) went (N .demanded) (N .inquired)
+-- a message that is no slice has been acted on: what it makes of the state, of DONE and of the demands, and what is sent and due
+abbrev pub changed : Numbers → (state went demanded sent due : ℕ) → Answer
+changed N state went demanded sent due =
+    answered 0 sent due (numbered state 0 (N .size) (N .salt) (N .width) (N .swaps) went demanded (N .inquired))
 
 abbrev pub slicedNumbers : Numbers → (size salt width : ℕ) → Numbers
 slicedNumbers N size salt width = numbered EXPECTING-LAST 0 size salt width (N .swaps) (N .done) (N .demanded) (N .inquired)

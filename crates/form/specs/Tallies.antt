@@ -16,7 +16,7 @@ use Rattle.filter.specs.Lists.{select, ascending}
 use Rattle.filter.specs.Sets.{all, implies, same}
 use Rattle.filter.specs.Table.{firstEight, idsOf, isTable}
 use Rattle.ledger.specs.declared.numbers.Numbers.{Numbers}
-use Rattle.ledger.specs.Grid.{EXPECTING, EXPECTING-LAST, ACTIVE, PASSIVE}
+use Rattle.ledger.specs.Grid.{EXPECTING, EXPECTING-LAST, ACTIVE, PASSIVE, isState}
 use Rattle.ledger.specs.Memory.{isOffered, isServed, isMet}
 use Rattle.ledger.specs.Calls.{numbered, countsNothing}
 use Rattle.form.specs.declared.tallying.Tally.{Tally}
@@ -99,7 +99,7 @@ numbersFit N =
     && (leb (N .done) 1
     && (leb (N .demanded) 4096
     && (leb (N .inquired) 4096
-    && (ltb (N .state) 8 && (leb (N .swaps) 16 && (inRange (N .size) (N .salt) && implies (idle (N .state) (N .first)) (countsNothing N)))))))
+    && (isState (N .state) && (leb (N .swaps) 16 && (inRange (N .size) (N .salt) && implies (idle (N .state) (N .first)) (countsNothing N)))))))
 
 unfoldable pub frontBy : Numbers → List ℕ → List ℤ → Bool
 frontBy N table counts =

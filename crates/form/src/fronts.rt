@@ -29,7 +29,7 @@ fn are_numbers(n: Numbers) -> bool
         & ((n.done <= 1)
             & ((n.demanded <= 4096)
                 & ((n.inquired <= 4096)
-                    & ((n.state < 8)
+                    & (crate::grid::is_state(n.state)
                         & ((n.swaps <= 16)
                             & (filter::forms::in_range(n.size, n.salt) & !(idle & !nothing)))))))
 }

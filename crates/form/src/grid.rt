@@ -1,10 +1,15 @@
-// The grid: a constant of states against messages, read by every message's function.
+// The states by their numbers, and the grid: a constant of states against messages.
 ghost use mathlib.Core.Path.{_≡_};
-ghost use Rattle.ledger.specs.Grid.{entry};
+ghost use Rattle.ledger.specs.Grid.{isState, isEnded, rowOf, entry};
 ghost use Rattle.form.specs.Answers.{admitsSlice, isPlaced};
+use ledger::numbers::ABORTED;
+use ledger::numbers::ACTIVE;
+use ledger::numbers::EXPECTING;
 use ledger::numbers::EXPECTING_LAST;
+use ledger::numbers::FINISHED;
 use ledger::numbers::Numbers;
 use ledger::numbers::PASSIVE;
+use ledger::numbers::WAITING;
 
 // The columns of the grid.
 pub const IBF: usize = 0;
@@ -22,29 +27,57 @@ pub const ELEMENT: usize = 5;
 pub const DONE: usize = 6;
 
 // One row a state: IBF, IBF LAST, INQUIRY, OFFER, DEMAND, ELEMENT, DONE.
-const GRID: [[bool; 7]; 8] = [
+const GRID: [[bool; 7]; 7] = [
     [true, true, false, false, false, false, false], // 0 Expecting IBF
     [true, true, false, false, false, false, false], // 1 Expecting IBF Last
     [false, false, false, true, true, true, true], // 2 Active Decoding
     [true, true, true, true, true, true, true], // 3 Passive Decoding
-    [false, false, false, false, false, true, false], // 4 Finish Closing
     [false, false, false, false, false, true, false], // 5 Finish Waiting
     [false, false, false, false, false, false, false], // 6 Finished
     [false, false, false, false, false, false, false], // 7 Aborted
 ];
 
+// The row of a state, behind all rows where the number is no state's.
+fn row_of(state: u32) -> usize
+    ensures { λ r. ⌜ r ≡ rowOf state ⌝ }
+{
+    match state {
+        EXPECTING => 0,
+        EXPECTING_LAST => 1,
+        ACTIVE => 2,
+        PASSIVE => 3,
+        WAITING => 4,
+        FINISHED => 5,
+        ABORTED => 6,
+        _ => 7,
+    }
+}
+
+pub fn is_state(state: u32) -> bool
+    ensures { λ r. ⌜ r ≡ isState state ⌝ }
+{
+    row_of(state) < 7
+}
+
+pub fn is_ended(state: u32) -> bool
+    ensures { λ r. ⌜ r ≡ isEnded state ⌝ }
+{
+    (state == FINISHED) | (state == ABORTED)
+}
+
 // Whether a message of a kind may come in a state. Outside the grid nothing may.
 pub fn admits(state: u32, kind: usize) -> bool
     ensures { λ r. ⌜ r ≡ entry state kind ⌝ }
 {
-    if 7 < state {
+    let row = row_of(state);
+    if 6 < row {
         return false;
     }
     if 6 < kind {
         return false;
     }
-    let row = GRID[state as usize];
-    row[kind]
+    let entries = GRID[row];
+    entries[kind]
 }
 
 // The same for a slice: in Passive Decoding only as first message since entry.

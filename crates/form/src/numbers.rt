@@ -1,7 +1,7 @@
 // What a step answers, and how the numbers of a session go on.
 ghost use mathlib.Core.Path.{_≡_};
 ghost use Rattle.ledger.specs.Calls.{answered, inState};
-ghost use Rattle.form.specs.Answers.{aborted, onward, withDemanded, closed, slicedNumbers, openedNumbers};
+ghost use Rattle.form.specs.Answers.{aborted, changed, slicedNumbers, openedNumbers};
 use ledger::numbers::ABORTED;
 use ledger::numbers::ACTIVE;
 use ledger::numbers::Answer;
@@ -46,29 +46,22 @@ fn in_state(mut numbers: Numbers, state: u32) -> Numbers
     numbers
 }
 
-// A message has come, the state stays.
-pub fn onward(mut next: Numbers) -> Numbers
-    ensures { λ r. ⌜ r ≡ onward next ⌝ }
+// A message that is no slice has been acted on.
+pub fn changed(
+    mut next: Numbers,
+    state: u32,
+    done: u32,
+    demanded: u32,
+    sent: usize,
+    due: usize,
+) -> Answer
+    ensures { λ r. ⌜ r ≡ changed next state done demanded sent due ⌝ }
 {
+    next.state = state;
     next.first = 0;
-    next
-}
-
-pub fn with_demanded(mut numbers: Numbers, n: u32) -> Numbers
-    ensures { λ r. ⌜ r ≡ withDemanded numbers n ⌝ }
-{
-    numbers.first = 0;
-    numbers.demanded = n;
-    numbers
-}
-
-pub fn closed(mut numbers: Numbers, next: u32, went: u32) -> Numbers
-    ensures { λ r. ⌜ r ≡ closed numbers next went ⌝ }
-{
-    numbers.state = next;
-    numbers.first = 0;
-    numbers.done = went;
-    numbers
+    next.done = done;
+    next.demanded = demanded;
+    answered(sent, due, next)
 }
 
 pub fn sliced(mut numbers: Numbers, size: u32, salt: u32, width: u32) -> Numbers

@@ -4,7 +4,7 @@ use mathlib.Core.Bool.{true, and-eq-true-iff}
 use mathlib.Core.List.{List, _++_, map, map-append}
 use Prim.Native.Nat.{ℕ, _/_, _%_, _≤_, _<_}
 use native.Mathlib.Omega.{arith}
-use lib.Dec.{eqb, ltb, leb}
+use lib.Dec.{eqb, leb}
 use lib.ListN.{length}
 use borrow.Author.Tests.{not-true, leb-true, ltb-true, le-leb, lt-ltb}
 use Rattle.bucket.specs.Lists.{Distinct}
@@ -15,7 +15,7 @@ use Rattle.filter.specs.Table.{hashesOf, isTable}
 use Rattle.filter.proofs.OrderLaws.{distinct-true, distinct-test}
 use Rattle.filter.proofs.TableLaws.{hashes-length}
 use Rattle.filter.specs.Sets.{within, count, every}
-use Rattle.ledger.specs.Grid.{ACTIVE}
+use Rattle.ledger.specs.Grid.{ACTIVE, isState}
 use Rattle.ledger.specs.Session.{Ledger, Session, noLedger, «in», idsOf, held, heldIds, concerned, allCame}
 use Rattle.ledger.specs.Form.{goodNumbers, idle, nothing, goodBooks, goodPart, goodWhole, goodLedger}
 use Rattle.filter.proofs.SetLaws.{_∈_, _⊆_, and-l, and-r, Asc, asc-of, of-asc, asc-distinct}
@@ -49,7 +49,7 @@ pub record Form (derive : ℕ → ℕ) (t : List ℕ) (s : Session) : Type 0 whe
   pub empty : idle s ≡ true → s .ledger ≡ noLedger
   pub demandsInquired : «in» s ACTIVE ≡ true → idsOf derive (s .ledger .demanded) ⊆ s .ledger .inquired
   pub doneExactly : «in» s ACTIVE ≡ true → s .ledger .doneWent ≡ allCame derive t (s .ledger)
-  pub state : s .state < 8
+  pub state : isState (s .state) ≡ true
   pub swaps : s .swaps ≤ 16
   pub sizeLow : 37 ≤ s .size
   pub sizeHigh : s .size ≤ 4096
@@ -168,7 +168,7 @@ module _ (derive : ℕ → ℕ) (t : List ℕ) where
       let whole = and-r (goodPart derive t s) _ e in
       let e1 = and-l (goodBooks derive t (s .ledger)) _ part in
       let e2 = and-r (goodBooks derive t (s .ledger)) _ part in
-      let n1 = and-r (ltb (s .state) 8) _ n in
+      let n1 = and-r (isState (s .state)) _ n in
       let n2 = and-r (leb (s .swaps) 16) _ n1 in
       let n3 = and-r (leb 37 (s .size)) _ n2 in
       record {
@@ -176,7 +176,7 @@ module _ (derive : ℕ → ℕ) (t : List ℕ) where
         empty = λ k. nothing-of (s .ledger) (implies-of (idle s) (nothing (s .ledger)) e2 k);
         demandsInquired = λ k. within-of (idsOf derive (s .ledger .demanded)) (s .ledger .inquired) (and-l (within (idsOf derive (s .ledger .demanded)) (s .ledger .inquired)) _ (implies-of («in» s ACTIVE) _ whole k));
         doneExactly = λ k. same-of (s .ledger .doneWent) (allCame derive t (s .ledger)) (and-r (within (idsOf derive (s .ledger .demanded)) (s .ledger .inquired)) _ (implies-of («in» s ACTIVE) _ whole k));
-        state = ltb-true (s .state) 8 (and-l (ltb (s .state) 8) _ n);
+        state = and-l (isState (s .state)) _ n;
         swaps = leb-true (s .swaps) 16 (and-l (leb (s .swaps) 16) _ n1);
         sizeLow = leb-true 37 (s .size) (and-l (leb 37 (s .size)) _ n2);
         sizeHigh = leb-true (s .size) 4096 (and-l (leb (s .size) 4096) _ n3);
@@ -186,7 +186,7 @@ module _ (derive : ℕ → ℕ) (t : List ℕ) where
   pub form-numbers : (s : Session) → Form derive t s → goodNumbers s ≡ true
   unfolding goodNumbers inRange
   form-numbers s f =
-      and-holds (lt-ltb (s .state) 8 (f .state))
+      and-holds (f .state)
       (and-holds (le-leb (s .swaps) 16 (f .swaps))
       (and-holds (le-leb 37 (s .size) (f .sizeLow)) (and-holds (le-leb (s .size) 4096 (f .sizeHigh)) (lt-ltb (s .salt) 64 (f .salt)))))
 

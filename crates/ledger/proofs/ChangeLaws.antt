@@ -1,7 +1,7 @@
--- What a step changes of what is gained, and that it never leads to Finish Closing. Assumes nothing.
-use mathlib.Core.Path.{_≡_, refl, sym, ap, subst, _∙_}
+-- What a step changes of what is gained. Assumes nothing.
+use mathlib.Core.Path.{_≡_, refl, sym, ap, _∙_}
 use mathlib.Core.Logic.{_⊎_, inl}
-use mathlib.Core.Bool.{Bool, true, false, _||_, cond}
+use mathlib.Core.Bool.{Bool, _||_}
 use mathlib.Core.List.{List}
 use Prim.Native.Nat.{ℕ}
 use lib.Dec.{eqb}
@@ -9,8 +9,7 @@ use Rattle.bucket.specs.Lists.{elem}
 use Rattle.bucket.proofs.ListLaws.{or-assoc}
 use Rattle.message.specs.Layout.{Content}
 use Rattle.filter.specs.Sets.{insert, _∪_}
-use Rattle.ledger.specs.Grid.{CLOSING}
-use Rattle.ledger.specs.Session.{Ledger, Session, Outcome, «in», unmet, sliced, held, refusal, swapped, decoded, act, step}
+use Rattle.ledger.specs.Session.{Ledger, Session, Outcome, unmet, sliced, held, refusal, swapped, decoded, act, step}
 use Rattle.filter.proofs.SetLaws.{_∈_, Asc, elem-insert, elem-∪, insert-asc, ∪-asc, asc-ext}
 use Rattle.ledger.proofs.BookLaws.{Form}
 use Rattle.ledger.proofs.FaultLaws.{by-kind, refused-ended, by-reading, by-step}
@@ -55,22 +54,3 @@ module _ (derive : ℕ → ℕ) (t : List ℕ) where
   pub held-same : (L K : Ledger) → K .gained ≡ L .gained → held derive t K ≡ held derive t L
   unfolding held
   held-same L K e = ap (λ (g : List ℕ). g ∪ t) e
-
-  -- ---- Finish Closing
-
-  abbrev Open : Session → Type 0
-  Open s = «in» s CLOSING ≡ false
-
-  pub open-step : (h : ℕ) (s : Session) (c : Content) → Form derive t s → Open s → Open (step derive t h s c .session)
-  unfolding act decoded swapped sliced
-  open-step h s c f o =
-      by-step derive t (λ o. Open (o .session)) h s c
-      (λ ad fs. by-kind (λ (o : Outcome). Open (o .session)) c _ _
-      (λ size offset salt width ids hashes counts e. by-reading derive t (λ o. Open (o .session)) s c size offset salt width (λ whole yes. refl)
-      (λ whole no. refl) refl)
-      (λ k. lawful derive t h s c k f ad fs .open′ o))
-      (subst (λ (q : ℕ). eqb q CLOSING ≡ false) (sym (refused-ended derive t (refusal derive t h s c) s c .state)) (go (eqb (s .state) 6)))
-    where
-      go : (b : Bool) → eqb (cond b 6 7) CLOSING ≡ false
-      go true = refl
-      go false = refl

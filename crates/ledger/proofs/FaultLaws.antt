@@ -101,14 +101,6 @@ ranges size offset salt width e =
 
 -- ---- a refusal
 
--- "in a session, state 7"; "states 6 and 7 stay"
-pub stopped-late : (q : ℕ) → (6 ≤ stopped q) × (stopped q < 8)
-stopped-late q = go (eqb q 6)
-  where
-    go : (b : Bool) → (6 ≤ cond b 6 7) × (cond b 6 7 < 8)
-    go true = (omega arith, omega arith)
-    go false = (omega arith, omega arith)
-
 -- what a refusal never changes: everything but the state, the columns and the two lists of a reading
 pub record Ended (s u : Session) : Type 0 where
   pub state : u .state ≡ stopped (s .state)

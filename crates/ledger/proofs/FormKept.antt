@@ -1,5 +1,5 @@
 -- Every step keeps the form of a session. Assumes nothing.
-use mathlib.Core.Path.{_≡_, refl, sym, subst}
+use mathlib.Core.Path.{_≡_, refl, sym, ap, subst, _∙_}
 use mathlib.Core.Bool.{Bool, true, false, not, _&&_, _||_, true≢false, false≢true}
 use mathlib.Core.List.{List, [], _∷_, _++_}
 use Prim.Native.Nat.{ℕ, _≤_, _<_}
@@ -11,7 +11,7 @@ use Rattle.bucket.proofs.ListLaws.{elem-head}
 use Rattle.filter.specs.Calls.{Read}
 use Rattle.message.specs.Layout.{Content, slice, Good}
 use Rattle.filter.specs.Sets.{_∪_, isNil, all, count, implies}
-use Rattle.ledger.specs.Grid.{isLast}
+use Rattle.ledger.specs.Grid.{ACTIVE, isEnded, isLast}
 use Rattle.ledger.specs.Session.{Ledger, Session, Outcome, Change, noLedger, turned, admitted, isComplete, oursIn, theirsIn, sliced, idsOf, held, allCame, opened, readOf, tooMany, tests, refusal, swapped, decoded, onSlice, change, act, refused, step}
 use Rattle.ledger.specs.Form.{idle}
 use Rattle.filter.proofs.SetLaws.{_⊆_, clash, not-in-nil, not-in, in-∪-l}
@@ -20,21 +20,21 @@ use Rattle.ledger.proofs.BookLaws.{Table, Books, Form}
 use Rattle.ledger.proofs.HeldLaws.{ids-in}
 use Rattle.ledger.proofs.KeptLaws.{books-opened}
 use Rattle.ledger.proofs.ReadingLaws.{ReadLaw, read-law}
-use Rattle.ledger.proofs.GridLaws.{slice-kind, slice-idle, come-idle, late-idle, late-active}
-use Rattle.ledger.proofs.FaultLaws.{Passed, by-kind, Ranges, ranges, stopped-late, refused-ended, by-reading, by-step}
+use Rattle.ledger.proofs.GridLaws.{slice-kind, slice-idle, come-idle, ended-state, stopped-ended, ended-other, ended-idle}
+use Rattle.ledger.proofs.FaultLaws.{Passed, by-kind, Ranges, ranges, refused-ended, by-reading, by-step}
 use Rattle.ledger.proofs.Lawful.{Lawful, lawful}
 use Rattle.ledger.proofs.FilterRoomLaws.{next-salt, next-size}
 
 module _ (derive : ℕ → ℕ) (t : List ℕ) where
-  -- from Finish Closing on nothing special is asked of the ledger
-  form-late : (s u : Session) → Form derive t s → Books derive t (u .ledger) → 4 ≤ u .state → u .state < 8
+  -- nothing special is asked of the ledger of an ended session
+  form-ended : (s u : Session) → Form derive t s → Books derive t (u .ledger) → isEnded (u .state) ≡ true
       → u .swaps ≡ s .swaps → u .size ≡ s .size → u .salt ≡ s .salt → Form derive t u
-  form-late s u f b l h sw sz sa = record {
+  form-ended s u f b e sw sz sa = record {
     books = b;
-    empty = λ e. absurd (clash e (late-idle u l));
-    demandsInquired = λ e. absurd (clash e (late-active u (omega arith)));
-    doneExactly = λ e. absurd (clash e (late-active u (omega arith)));
-    state = h;
+    empty = λ k. absurd (clash k (ended-idle u e));
+    demandsInquired = λ k. absurd (clash k (ended-other (u .state) ACTIVE e refl));
+    doneExactly = λ k. absurd (clash k (ended-other (u .state) ACTIVE e refl));
+    state = ended-state (u .state) e;
     swaps = omega (arith, f .swaps, sw);
     sizeLow = omega (arith, f .sizeLow, sz);
     sizeHigh = omega (arith, f .sizeHigh, sz);
@@ -48,7 +48,7 @@ module _ (derive : ℕ → ℕ) (t : List ℕ) where
     empty = λ k. absurd (clash k (come-idle (turned s ch) (l .later) refl));
     demandsInquired = l .demandsInquired;
     doneExactly = l .doneExactly;
-    state = l .low;
+    state = l .known;
     swaps = f .swaps;
     sizeLow = f .sizeLow;
     sizeHigh = f .sizeHigh;
@@ -65,7 +65,7 @@ module _ (derive : ℕ → ℕ) (t : List ℕ) where
     empty = λ k. e;
     demandsInquired = λ k. absurd (false≢true k);
     doneExactly = λ k. absurd (false≢true k);
-    state = omega arith;
+    state = unfold elem in refl;
     swaps = f .swaps;
     sizeLow = g .low;
     sizeHigh = g .high;
@@ -80,7 +80,7 @@ module _ (derive : ℕ → ℕ) (t : List ℕ) where
     empty = λ k. e;
     demandsInquired = λ k. absurd (false≢true k);
     doneExactly = λ k. absurd (false≢true k);
-    state = omega arith;
+    state = unfold elem in refl;
     swaps = sw;
     sizeLow = next-size size (g .low) .0;
     sizeHigh = next-size size (g .low) .1;
@@ -108,7 +108,7 @@ module _ (derive : ℕ → ℕ) (t : List ℕ) where
     doneExactly = λ k.
         subst (λ (L : Ledger). isNil (theirsIn r) ≡ allCame derive t (opened derive t (oursIn r) (theirsIn r) L)) (sym e)
         (opened-exact (oursIn r) (theirsIn r) (law .theirsNew));
-    state = omega arith;
+    state = unfold elem in refl;
     swaps = f .swaps;
     sizeLow = ra .low;
     sizeHigh = ra .high;
@@ -166,6 +166,5 @@ module _ (derive : ℕ → ℕ) (t : List ℕ) where
       ended : (n : ℕ) → Form derive t (refused derive t n s c)
       ended n =
           let r = refused-ended derive t n s c in
-          let late = stopped-late (s .state) in
-          form-late s (refused derive t n s c) f (subst (Books derive t) (sym (r .ledger)) (f .books))
-          (omega (arith, r .state)) (omega (arith, r .state)) (r .swaps) (r .size) (r .salt)
+          form-ended s (refused derive t n s c) f (subst (Books derive t) (sym (r .ledger)) (f .books))
+          (ap isEnded (r .state) ∙ stopped-ended (s .state)) (r .swaps) (r .size) (r .salt)

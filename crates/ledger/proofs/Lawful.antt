@@ -8,7 +8,7 @@ use mathlib.Core.Path.{_≡_, refl, sym, ap, ap₂, subst, _∙_}
 use mathlib.Core.Logic.{_⊎_, inl, inr}
 use mathlib.Core.Bool.{Bool, true, false, _&&_, _||_, cond}
 use mathlib.Core.List.{List, [], _++_}
-use Prim.Native.Nat.{ℕ, _≤_, _<_}
+use Prim.Native.Nat.{ℕ, _≤_}
 use native.Mathlib.Omega.{arith}
 use lib.Dec.{eqb}
 use borrow.Author.Tests.{eqb-true, ne-eqb, leb-true}
@@ -16,14 +16,14 @@ use Rattle.bucket.specs.Lists.{elem}
 use Rattle.message.specs.Layout.{Content, slice, inquiry, offer, demand, element, done}
 use Rattle.message.specs.Writing.{offersOf, demandsOf}
 use Rattle.filter.specs.Sets.{insert, _∪_, isNil, all, once, count, implies}
-use Rattle.ledger.specs.Grid.{ACTIVE, PASSIVE, CLOSING, WAITING, FINISHED, isLast}
-use Rattle.ledger.specs.Session.{Ledger, Session, Change, «in», isSlice, unmet, gaining, doneIf, admitted, idsOf, held, heldIds, concerned, checksum, allCame, hashesFor, asks, new, allowed, lastOne, saysDone, tests, ownDone, change}
+use Rattle.ledger.specs.Grid.{ACTIVE, PASSIVE, WAITING, FINISHED, isState, isLast}
+use Rattle.ledger.specs.Session.{Ledger, Session, Change, «in», isSlice, unmet, gaining, doneIf, admitted, idsOf, held, heldIds, concerned, checksum, allCame, hashesFor, asks, new, allowed, lastOne, waits, saysDone, tests, ownDone, change}
 use Rattle.filter.proofs.SetLaws.{_∈_, _⊆_, clash, either, and-l, and-r, ∪-in, select-in, in-append-l, in-append-r}
 use Rattle.filter.proofs.ListLaws.{implies-of, all-in, isNil-yes, isNil-no, news-apart, news-in}
 use Rattle.ledger.proofs.BookLaws.{Books, Form}
 use Rattle.ledger.proofs.HeldLaws.{in-ids, ids-in, unmet-in}
 use Rattle.ledger.proofs.KeptLaws.{books-done, books-serving, books-asking, books-demanding, books-gaining, unmet-lacking}
-use Rattle.ledger.proofs.GridLaws.{slice-kind, other-later, inquiry-passive, late-active}
+use Rattle.ledger.proofs.GridLaws.{slice-kind, other-later, inquiry-passive}
 use Rattle.ledger.proofs.FaultLaws.{Passed}
 
 abbrev pub hashesIn : Content → List ℕ
@@ -45,15 +45,14 @@ checkIn (element bytes) = 0
 module _ (derive : ℕ → ℕ) (t : List ℕ) where
   pub data Says (L : Ledger) (c : Content) (ch : Change) : Type 0 where
     nothing : ch .sent ≡ [] → Says L c ch
-    closing : ch .sent ≡ ownDone derive t (ch .ledger) → Says L c ch
+    ending : ch .sent ≡ ownDone derive t (ch .ledger) → Says L c ch
     offers : (xs : List ℕ) → xs ⊆ heldIds derive t L → ch .sent ≡ offersOf (hashesFor derive t L xs) → Says L c ch
     demands : (hs : List ℕ) → hs ⊆ hashesIn c → ch .sent ≡ demandsOf hs → Says L c ch
 
   pub record Lawful (h : ℕ) (s : Session) (c : Content) (ch : Change) : Type 0 where
     pub books : Books derive t (ch .ledger)
     pub later : 2 ≤ ch .state
-    pub low : ch .state < 8
-    pub open′ : «in» s CLOSING ≡ false → eqb (ch .state) CLOSING ≡ false
+    pub known : isState (ch .state) ≡ true
     pub demandsInquired : eqb (ch .state) ACTIVE ≡ true → idsOf derive (ch .ledger .demanded) ⊆ ch .ledger .inquired
     pub doneExactly : eqb (ch .state) ACTIVE ≡ true → ch .ledger .doneWent ≡ allCame derive t (ch .ledger)
     pub inquired : ch .ledger .inquired ≡ s .ledger .inquired
@@ -88,7 +87,7 @@ module _ (derive : ℕ → ℕ) (t : List ℕ) where
 
     -- our DONE, or nothing
     own-or-nothing : {c : Content} (ch : Change) (b : Bool) → ch .sent ≡ cond b (ownDone derive t (ch .ledger)) [] → Says L c ch
-    own-or-nothing ch true e = closing e
+    own-or-nothing ch true e = ending e
     own-or-nothing ch false e = nothing e
 
     -- INQUIRY comes in Passive Decoding alone
@@ -96,12 +95,11 @@ module _ (derive : ℕ → ℕ) (t : List ℕ) where
     unfolding change
     lawful-inquiry salt xs ad =
         let passive : s .state ≡ 3 = inquiry-passive s (inquiry salt xs) refl ad in
-        let na : «in» s ACTIVE ≡ false = late-active s (omega arith) in
+        let na : «in» s ACTIVE ≡ false = ne-eqb (s .state) ACTIVE (λ e. absurd (omega arith)) in
         record {
           books = books-asking derive t (asks derive t L xs) L asked (f .books);
           later = omega (arith, passive);
-          low = f .state;
-          open′ = λ o. o;
+          known = f .state;
           demandsInquired = λ a. absurd (clash a na);
           doneExactly = λ a. absurd (clash a na);
           inquired = refl;
@@ -122,8 +120,7 @@ module _ (derive : ℕ → ℕ) (t : List ℕ) where
         record {
           books = books-demanding derive t ys L (news-apart (held derive t L ++ L .demanded) hs) (tests-are .1) (f .books) few;
           later = later;
-          low = f .state;
-          open′ = λ o. o;
+          known = f .state;
           demandsInquired = inquired;
           doneExactly = λ a. unfold allCame held in f .doneExactly a;
           inquired = refl;
@@ -162,8 +159,7 @@ module _ (derive : ℕ → ℕ) (t : List ℕ) where
     lawful-demand hs later known = record {
       books = books-serving derive t hs L (all-in (λ x. elem x (L .offered)) hs known) (f .books);
       later = later;
-      low = f .state;
-      open′ = λ o. o;
+      known = f .state;
       demandsInquired = f .demandsInquired;
       doneExactly = λ a. unfold allCame held in f .doneExactly a;
       inquired = refl;
@@ -175,14 +171,13 @@ module _ (derive : ℕ → ℕ) (t : List ℕ) where
     }
 
     lawful-element : (bytes : List ℕ) → 2 ≤ s .state → h ∈ unmet L → Lawful h s (element bytes) (change derive t h s (element bytes))
-    unfolding change checksum allCame held saysDone
+    unfolding change checksum allCame held saysDone lastOne
     lawful-element bytes later u = record {
       books = books-done derive t (saysDone derive t s (gaining h L)) (gaining h L) (books-gaining derive t h L u (f .books));
-      later = stays (lastOne derive t s (gaining h L)) .0;
-      low = stays (lastOne derive t s (gaining h L)) .1;
-      open′ = opens (lastOne derive t s (gaining h L));
-      demandsInquired = λ a. f .demandsInquired (active (lastOne derive t s (gaining h L)) a);
-      doneExactly = λ a. exact (active (lastOne derive t s (gaining h L)) a);
+      later = stays (lastOne s (gaining h L)) .0;
+      known = stays (lastOne s (gaining h L)) .1;
+      demandsInquired = λ a. f .demandsInquired (active (lastOne s (gaining h L)) a);
+      doneExactly = λ a. exact (active (lastOne s (gaining h L)) a);
       inquired = refl;
       demanded = λ x e. e;
       gained = inr (u, refl);
@@ -191,13 +186,9 @@ module _ (derive : ℕ → ℕ) (t : List ℕ) where
       one = inl refl;
     }
       where
-        stays : (b : Bool) → (2 ≤ cond b FINISHED (s .state)) × (cond b FINISHED (s .state) < 8)
-        stays true = (omega arith, omega arith)
+        stays : (b : Bool) → (2 ≤ cond b FINISHED (s .state)) × (isState (cond b FINISHED (s .state)) ≡ true)
+        stays true = (omega arith, unfold elem in refl)
         stays false = (later, f .state)
-
-        opens : (b : Bool) → «in» s CLOSING ≡ false → eqb (cond b FINISHED (s .state)) CLOSING ≡ false
-        opens true o = refl
-        opens false o = o
 
         active : (b : Bool) → eqb (cond b FINISHED (s .state)) ACTIVE ≡ true → «in» s ACTIVE ≡ true
         active true a = absurd (clash a refl)
@@ -213,40 +204,32 @@ module _ (derive : ℕ → ℕ) (t : List ℕ) where
             last true = refl
             last false = refl
 
-    lawful-done : (check : ℕ) → («in» s ACTIVE ≡ true → L .doneWent ≡ true) → Lawful h s (done check) (change derive t h s (done check))
+    lawful-done : (check : ℕ) → Lawful h s (done check) (change derive t h s (done check))
     unfolding change checksum held
-    lawful-done check timely = record {
-      books = books-done derive t (ends && «in» s PASSIVE) L (f .books);
-      later = late ends («in» s ACTIVE) .0;
-      low = late ends («in» s ACTIVE) .1;
-      open′ = λ o. opens ends («in» s ACTIVE) refl refl;
-      demandsInquired = λ a. absurd (clash a (late ends («in» s ACTIVE) .2));
-      doneExactly = λ a. absurd (clash a (late ends («in» s ACTIVE) .2));
+    lawful-done check = record {
+      books = books-done derive t says L (f .books);
+      later = ends (waits s) .0;
+      known = ends (waits s) .1;
+      demandsInquired = λ a. absurd (clash a (ends (waits s) .2));
+      doneExactly = λ a. absurd (clash a (ends (waits s) .2));
       inquired = refl;
       demanded = λ x e. e;
       gained = inl refl;
-      far = kept ends;
-      says = own-or-nothing (change derive t h s (done check)) (ends && «in» s PASSIVE) refl;
+      far = kept (waits s);
+      says = own-or-nothing (change derive t h s (done check)) says refl;
       one = inl refl;
     }
       where
-        ends : Bool
-        ends = isNil (unmet L)
+        says : Bool
+        says = «in» s PASSIVE && isNil (unmet L)
 
-        late : (b a : Bool) → (2 ≤ cond b FINISHED (cond a CLOSING WAITING)) × (cond b FINISHED (cond a CLOSING WAITING) < 8) × (eqb (cond b FINISHED (cond a CLOSING WAITING)) ACTIVE ≡ false)
-        late true a = (omega arith, omega arith, refl)
-        late false true = (omega arith, omega arith, refl)
-        late false false = (omega arith, omega arith, refl)
+        ends : (b : Bool) → (2 ≤ cond b WAITING FINISHED) × (isState (cond b WAITING FINISHED) ≡ true) × (eqb (cond b WAITING FINISHED) ACTIVE ≡ false)
+        ends true = (omega arith, unfold elem in refl, refl)
+        ends false = (omega arith, unfold elem in refl, refl)
 
-        -- DONE came after ours, so every inquired one is held, and what was demanded was inquired
-        opens : (b a : Bool) → isNil (unmet L) ≡ b → «in» s ACTIVE ≡ a → eqb (cond b FINISHED (cond a CLOSING WAITING)) CLOSING ≡ false
-        opens true a e k = refl
-        opens false true e k = absurd (clash (none-unmet s f k (timely k)) e)
-        opens false false e k = refl
-
-        kept : (b : Bool) → (cond b (s .far) check ≡ s .far) ⊎ (cond b (s .far) check ≡ check)
-        kept true = inl refl
-        kept false = inr refl
+        kept : (b : Bool) → (cond b check (s .far) ≡ s .far) ⊎ (cond b check (s .far) ≡ check)
+        kept true = inr refl
+        kept false = inl refl
 
   pub lawful : (h : ℕ) (s : Session) (c : Content) → isSlice c ≡ false → Form derive t s → admitted s c ≡ true
       → Passed (tests derive t h s c) → Lawful h s c (change derive t h s c)
@@ -256,4 +239,4 @@ module _ (derive : ℕ → ℕ) (t : List ℕ) where
   lawful h s (offer hs) k f ad fs = lawful-offer h s f hs (other-later s (offer hs) refl ad) (fs .0) (leb-true _ 4096 (fs .1 .0))
   lawful h s (demand hs) k f ad fs = lawful-demand h s f hs (other-later s (demand hs) refl ad) (and-l _ (once (s .ledger .served) hs) (fs .0))
   lawful h s (element bytes) k f ad fs = lawful-element h s f bytes (other-later s (element bytes) refl ad) (fs .0)
-  lawful h s (done check) k f ad fs = lawful-done h s f check (implies-of («in» s ACTIVE) (s .ledger .doneWent) (fs .0))
+  lawful h s (done check) k f ad fs = lawful-done h s f check

@@ -1,13 +1,12 @@
 -- What a reader looks for in the session's definition, each under document 01's words. Assumes nothing.
 use mathlib.Core.Path.{_≡_, refl, sym, subst, _∙_}
 use mathlib.Core.Logic.{_≢_, _⊎_, inl, inr}
-use mathlib.Core.Bool.{Bool, true, false, _&&_, _||_, cond, false≢true, or-false}
+use mathlib.Core.Bool.{Bool, true, false, _&&_, _||_, false≢true, or-false}
 use mathlib.Core.List.{List, [], _∷_, _++_}
-use Prim.Native.Nat.{ℕ, suc, _≤_, _<_, _^_}
-use native.Mathlib.Omega.{arith}
+use Prim.Native.Nat.{ℕ, suc, _<_, _^_}
 use lib.Dec.{eqb, leb}
 use lib.ListN.{length}
-use borrow.Author.Tests.{eqb-true, eqb-false}
+use borrow.Author.Tests.{eqb-true}
 use Rattle.bucket.specs.Bucket.{𝟎}
 use Rattle.bucket.specs.Columns.{Columns, view}
 use Rattle.bucket.specs.Lists.{elem, Distinct}
@@ -21,17 +20,17 @@ use Rattle.filter.proofs.Demand3.{complete-trusted, complete-set, reads-exactly
 use Rattle.message.specs.Layout.{Content, slice, inquiry, offer, demand, element, done, Good}
 use Rattle.message.specs.Laying.{laid}
 use Rattle.filter.specs.Sets.{insert}
-use Rattle.ledger.specs.Grid.{PASSIVE, CLOSING, isLast}
-use Rattle.ledger.specs.Session.{Ledger, Session, «in», isSlice, bySlice, unmet, answer, nextSalt, nextSize, isComplete, isFalse, oursIn, theirsIn, ownFilter, acts, idsOf, held, readOf, tests, refusal, swapped, onSlice, act, cleared, halted, refused, step}
+use Rattle.ledger.specs.Grid.{PASSIVE, isEnded, isLast}
+use Rattle.ledger.specs.Session.{Ledger, Session, isSlice, bySlice, unmet, answer, nextSalt, nextSize, isComplete, isFalse, oursIn, theirsIn, ownFilter, acts, idsOf, held, readOf, tests, refusal, swapped, onSlice, act, cleared, halted, refused, step}
 use Rattle.ledger.specs.Form.{goodNumbers, goodLedger}
 use Rattle.filter.proofs.ListLaws.{implies-not}
 use Rattle.filter.proofs.SetLaws.{_⊆_, _∈_, and-l, and-r, in-insert, Asc}
 use Rattle.ledger.proofs.BookLaws.{Table, Form, table-of, form-of, of-form}
-use Rattle.ledger.proofs.GridLaws.{slice-kind, ended-admits}
+use Rattle.ledger.proofs.GridLaws.{slice-kind, ended-stopped, ended-admits}
 use Rattle.ledger.proofs.FaultLaws.{by-kind, plain, fails, six-fails, Ended, refused-ended}
 use Rattle.ledger.proofs.ReadingLaws.{granted, reading-granted, complete-clean, false-cleared}
 use Rattle.ledger.proofs.FormKept.{kept-step}
-use Rattle.ledger.proofs.ChangeLaws.{gained-step, held-insert, held-same, open-step}
+use Rattle.ledger.proofs.ChangeLaws.{gained-step, held-insert, held-same}
 
 -- ---- "Its form: .."
 
@@ -122,18 +121,14 @@ module _ (derive : ℕ → ℕ) (t : List ℕ) where
       rw (e, whole, zero)
 
   -- 5: "states 6 and 7 stay"
-  pub ended-stays : (h : ℕ) (s : Session) (c : Content) → 6 ≤ s .state → s .state < 8
+  pub ended-stays : (h : ℕ) (s : Session) (c : Content) → isEnded (s .state) ≡ true
       → (refusal derive t h s c ≡ 5) × (step derive t h s c .session ≡ s)
   unfolding refusal step
-  ended-stays h s c low high = rw (ended-admits s c low) (refl, refusal-buffers 5 s c refl ∙ same)
+  ended-stays h s c e = rw (ended-admits s c e) (refl, refusal-buffers 5 s c refl ∙ same)
     where
-      stays : (b : Bool) → eqb (s .state) 6 ≡ b → cond b 6 7 ≡ s .state
-      stays true e = sym (eqb-true (s .state) 6 e)
-      stays false e = let ne : s .state ≢ 6 = eqb-false (s .state) 6 e in omega arith
-
       same : halted derive t s ≡ s
       same = λ i. record {
-        state = stays (eqb (s .state) 6) refl i;
+        state = ended-stopped (s .state) e i;
         first = s .first;
         size = s .size;
         salt = s .salt;
@@ -178,7 +173,7 @@ module _ (derive : ℕ → ℕ) (t : List ℕ) where
       go (inl e) = subst (λ (l : List ℕ). x ∈ l) (sym e) k
       go (inr (u, e)) = subst (λ (l : List ℕ). x ∈ l) (sym e) (in-insert x h (held derive t L) k)
 
-  -- ---- Finish Closing: "then 4 if a demand is unmet" never happens
+  -- ---- any sequence of messages
 
   -- the session after messages, each with the hash that the caller worked out
   unfoldable pub after : Session → List (ℕ × Content) → Session
@@ -193,13 +188,6 @@ module _ (derive : ℕ → ℕ) (t : List ℕ) where
   unfolding after
   form-after g s [] f a = f
   form-after g s (m ∷ ms) f a = form-after g (step derive t (m .0) s (m .1) .session) ms (form-kept derive t g (m .0) s (m .1) (a .0) f) (a .1)
-
-  pub never-closing : Table derive t → (s : Session) (ms : List (ℕ × Content)) → Form derive t s → AllGood ms
-      → «in» s CLOSING ≡ false → «in» (after s ms) CLOSING ≡ false
-  unfolding after
-  never-closing g s [] f a o = o
-  never-closing g s (m ∷ ms) f a o =
-      never-closing g (step derive t (m .0) s (m .1) .session) ms (form-kept derive t g (m .0) s (m .1) (a .0) f) (a .1) (open-step derive t (m .0) s (m .1) f o)
 
 -- ---- readings
 

@@ -11,10 +11,10 @@
 -- 64 bytes of the far checksum. `marks`: a mark for each element of the table, and from 4,096 on one for each hash demanded. `inquired`: IDs,
 -- ascending. Places behind what the numbers count are neither judged nor changed.
 -- Assumes nothing.
-use mathlib.Core.Bool.{Bool, _&&_, cond}
+use mathlib.Core.Bool.{Bool, not, _&&_, cond}
 use mathlib.Core.List.{List, [], _∷_, _++_}
 use Prim.Native.Nat.{ℕ, _+_, _-_, _*_, _/_, min}
-use lib.Dec.{eqb, ltb, leb}
+use lib.Dec.{eqb, leb}
 use lib.ListN.{length, take, replicate}
 use Rattle.bucket.specs.Columns.{Columns}
 use Rattle.bucket.specs.Digits.{joined, packed}
@@ -33,7 +33,7 @@ use Rattle.message.specs.Writing.{layouts}
 use Rattle.ledger.specs.declared.numbers.Numbers.{Numbers}
 use Rattle.ledger.specs.declared.numbers.Answer.{Answer}
 use Rattle.filter.specs.Sets.{implies}
-use Rattle.ledger.specs.Grid.{EXPECTING, EXPECTING-LAST, PASSIVE, FINISHED, ABORTED}
+use Rattle.ledger.specs.Grid.{EXPECTING, EXPECTING-LAST, PASSIVE, ABORTED, isEnded}
 use Rattle.ledger.specs.Session.{Session, Outcome, «in», acts, idsOf, ownFilter, refusal, act, refused}
 use Rattle.ledger.specs.Form.{goodNumbers, idle, goodPart, goodWhole}
 use Rattle.ledger.specs.Memory.{bit, Memory, allBelow, decode, marksOf, flagsOf}
@@ -187,7 +187,7 @@ hasRooms G =
 
 -- 1, 2, and 5 in states 6 and 7; 3 is for the starts, as a step is given no size or salt
 unfoldable pub early : (ℕ → ℕ) → Given → Refusal
-early derive G = firstOf ((Form, goodForm derive G) ∷ (Room, hasRooms G) ∷ (OutOfTurn, ltb (G .numbers .state) FINISHED) ∷ [])
+early derive G = firstOf ((Form, goodForm derive G) ∷ (Room, hasRooms G) ∷ (OutOfTurn, not (isEnded (G .numbers .state))) ∷ [])
 
 -- ---- a step
 

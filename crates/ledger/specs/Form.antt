@@ -8,15 +8,15 @@
 use mathlib.Core.Bool.{Bool, not, _&&_, _||_}
 use mathlib.Core.List.{List, [], _∷_, _++_}
 use Prim.Native.Nat.{ℕ}
-use lib.Dec.{ltb, leb}
+use lib.Dec.{leb}
 use Rattle.filter.specs.Lists.{ascending, distinct}
 use Rattle.filter.specs.Calls.{inRange}
 use Rattle.filter.specs.Sets.{isNil, within, count, every, implies, same}
-use Rattle.ledger.specs.Grid.{EXPECTING, EXPECTING-LAST, ACTIVE, PASSIVE}
+use Rattle.ledger.specs.Grid.{EXPECTING, EXPECTING-LAST, ACTIVE, PASSIVE, isState}
 use Rattle.ledger.specs.Session.{Ledger, Session, «in», idsOf, held, heldIds, concerned, allCame}
 
 unfoldable pub goodNumbers : Session → Bool
-goodNumbers s = ltb (s .state) 8 && (leb (s .swaps) 16 && inRange (s .size) (s .salt))
+goodNumbers s = isState (s .state) && (leb (s .swaps) 16 && inRange (s .size) (s .salt))
 
 -- "in 0 and 1, and in 3 until its first message"
 unfoldable pub idle : Session → Bool

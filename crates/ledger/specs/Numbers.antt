@@ -22,17 +22,18 @@ use Rattle.filter.specs.Table.{hashAt, hashesOf, isTable}
 use Rattle.message.specs.Layout.{Content, slice, inquiry, offer, demand, element, done}
 use Rattle.message.specs.Laying.{laid}
 use Rattle.filter.specs.Sets.{insert, _∪_, all, within, count, every}
-use Rattle.ledger.specs.Grid.{EXPECTING, EXPECTING-LAST, ACTIVE, PASSIVE, CLOSING, WAITING, FINISHED, ABORTED, entry}
-use Rattle.ledger.specs.Session.{Ledger, Session, noLedger, bySlice, unmet, admitted, placed, nextSalt, nextSize, isComplete, theirsIn, acts, clears, idsOf, held, checksum, concerned, new, readingAt, tooMany, allowed, agrees, lastOne, saysDone, tests, refusal, swapped, onSlice, change, act, allCame, cleared, refused, step}
+use Rattle.ledger.specs.Grid.{EXPECTING, EXPECTING-LAST, ACTIVE, PASSIVE, WAITING, FINISHED, ABORTED, states, placeIn, entry}
+use Rattle.ledger.specs.Session.{Ledger, Session, noLedger, bySlice, unmet, admitted, placed, nextSalt, nextSize, isComplete, theirsIn, acts, clears, idsOf, held, checksum, concerned, new, readingAt, tooMany, allowed, agrees, lastOne, waits, saysDone, tests, refusal, swapped, onSlice, change, act, allCame, cleared, refused, step}
 use Rattle.ledger.specs.Form.{goodNumbers, idle, nothing, goodBooks, goodPart, goodWhole}
 use Rattle.ledger.specs.Memory.{isAsked, isOffered, isServed, isMet, marked, allBelow, decode}
 use Rattle.ledger.specs.Calls.{Given, given, numbered, memoryOf, sessionOf, readable, countsNothing, isWhole, goodBack, goodFront, goodForm, hasLedgerRoom, hasRooms, early, stepCall, startReceiver, startSender}
 
 -- ---- states and messages
 
--- "0 Expecting IBF, 1 Expecting IBF Last", "2 Active Decoding", "3 Passive Decoding", "4 Finish Closing, 5 Finish Waiting", "6 Finished, 7 Aborted"
-pub states : EXPECTING ∷ EXPECTING-LAST ∷ ACTIVE ∷ PASSIVE ∷ CLOSING ∷ WAITING ∷ FINISHED ∷ ABORTED ∷ [] ≡ 0 ∷ 1 ∷ 2 ∷ 3 ∷ 4 ∷ 5 ∷ 6 ∷ 7 ∷ []
-states = refl
+-- "0 Expecting IBF, 1 Expecting IBF Last", "2 Active Decoding", "3 Passive Decoding", "5 Finish Waiting", "6 Finished, 7 Aborted"; Req 04: "take the
+-- state and its row out"
+pub state-numbers : (EXPECTING ∷ EXPECTING-LAST ∷ ACTIVE ∷ PASSIVE ∷ WAITING ∷ FINISHED ∷ ABORTED ∷ [] ≡ 0 ∷ 1 ∷ 2 ∷ 3 ∷ 5 ∷ 6 ∷ 7 ∷ []) × (states ≡ 0 ∷ 1 ∷ 2 ∷ 3 ∷ 5 ∷ 6 ∷ 7 ∷ [])
+state-numbers = (refl, refl)
 
 -- a session by its numbers, at width 1, and its ledger
 abbrev pub sessionAt : (state : ℕ) (first : Bool) (size salt swaps far : ℕ) → Ledger → Session
@@ -73,12 +74,14 @@ pub grid-rows :
     -- "IBF and IBF LAST only as first message since entry"
     × (mayCome 3 true ≡ anIbf ∷ anIbfLast ∷ anInquiry ∷ anOffer ∷ aDemand ∷ anElement ∷ aDone ∷ [])
     × (mayCome 3 false ≡ anInquiry ∷ anOffer ∷ aDemand ∷ anElement ∷ aDone ∷ [])
-    × (mayCome 4 false ≡ anElement ∷ [])
     × (mayCome 5 false ≡ anElement ∷ [])
     × (mayCome 6 false ≡ [])
     × (mayCome 7 false ≡ [])
-unfolding select admitted entry
-grid-rows = (refl, refl, refl, refl, refl, refl, refl, refl, refl)
+    -- outside the grid
+    × (mayCome 4 false ≡ [])
+    × (mayCome 8 false ≡ [])
+unfolding select admitted entry placeIn
+grid-rows = (refl, refl, refl, refl, refl, refl, refl, refl, refl, refl)
 
 -- ---- numbers
 
@@ -96,23 +99,25 @@ stuckAt swaps = step (λ h. h) [] 0 (sessionAt 0 false 37 0 swaps 0 noLedger) (s
 -- "At most 16 such swaps"
 pub swaps-counted : (stuckAt 15 .state ≡ 3) × (stuckAt 15 .swaps ≡ 16) × (stuckAt 16 .state ≡ 7) × (stuckAt 16 .swaps ≡ 16)
 unfolding step refusal admitted entry tests bySlice placed tooMany readingAt readWith verdict reading run next first look isPure difference filterOf
-    sumAt view laid over allZero isZero _⊕_ neg 𝟎 act onSlice swapped refused cleared idsOf
+    sumAt view laid over allZero isZero _⊕_ neg 𝟎 act onSlice swapped refused cleared idsOf placeIn
 swaps-counted = (refl, refl, refl, refl)
 
--- "swaps are at most 16, size and salt in range"; the states are 0 to 7
+-- "swaps are at most 16, size and salt in range"; Req 04: "A state number 4 handed in is refused with 1"
 abbrev pub numbersAt : (state swaps size salt : ℕ) → Bool
 numbersAt q swaps size salt = goodNumbers (sessionAt q false size salt swaps 0 noLedger)
 
 pub ranges :
     (numbersAt 7 16 37 0 ≡ true)
     × (numbersAt 7 16 4096 63 ≡ true)
+    × (numbersAt 4 16 37 0 ≡ false)
+    × (numbersAt 5 16 37 0 ≡ true)
     × (numbersAt 8 16 37 0 ≡ false)
     × (numbersAt 7 17 37 0 ≡ false)
     × (numbersAt 7 16 36 0 ≡ false)
     × (numbersAt 7 16 4097 0 ≡ false)
     × (numbersAt 7 16 37 64 ≡ false)
-unfolding goodNumbers inRange
-ranges = (refl, refl, refl, refl, refl, refl, refl)
+unfolding goodNumbers inRange elem
+ranges = (refl, refl, refl, refl, refl, refl, refl, refl, refl)
 
 -- a slice in a session of 4,096 buckets at salt 0
 abbrev pub placedAt : (state size offset salt width : ℕ) → Bool
@@ -139,7 +144,7 @@ pub counts-judged :
     (goodFront (λ h. h) (givenAt 1 2519) ≡ false)
     × (goodFront (λ h. h) (givenAt 1 2520) ≡ true)
     × (goodFront (λ h. h) (givenAt 0 0) ≡ true)
-unfolding goodFront isTable hashesOf tabulated rising distinct readable goodNumbers idle countsNothing sessionOf inRange allCounts
+unfolding goodFront isTable hashesOf tabulated rising distinct readable goodNumbers elem idle countsNothing sessionOf inRange allCounts
     Rattle.filter.specs.Table.idsOf
 counts-judged = (refl, refl, refl)
 
@@ -178,20 +183,21 @@ rooms G = simp (and-assoc, and-true)
 
 -- ---- refusals
 
--- "They are tried as 1, 3, 2, 5 (states 6 and 7 only)": a start with a table of one byte, then at size 36, then with no room; a step in state 8, then with
--- no room
+-- "They are tried as 1, 3, 2, 5 (states 6 and 7 only)": a start with a table of one byte, then at size 36, then with no room; a step in a state that there
+-- is not, then with no room
 pub first-tried :
     (startReceiver (λ h. h) (0 ∷ []) [] .answer .refusal ≡ 1)
     × (startReceiver (λ h. h) [] [] .answer .refusal ≡ 2)
     × (startSender (λ h. h) 36 0 (0 ∷ []) [] [] .answer .refusal ≡ 1)
     × (startSender (λ h. h) 36 0 [] [] [] .answer .refusal ≡ 3)
     × (startSender (λ h. h) 37 0 [] [] [] .answer .refusal ≡ 2)
+    × (stepCall (λ h. h) (givenAt 4 0) .answer .refusal ≡ 1)
     × (stepCall (λ h. h) (givenAt 8 0) .answer .refusal ≡ 1)
     × (stepCall (λ h. h) (givenAt 6 0) .answer .refusal ≡ 2)
-unfolding startReceiver startSender stepCall early goodForm goodFront readable goodNumbers idle countsNothing sessionOf hasRooms hasLedgerRoom isTable hashesOf
+unfolding startReceiver startSender stepCall early goodForm goodFront readable goodNumbers elem idle countsNothing sessionOf hasRooms hasLedgerRoom isTable hashesOf
     tabulated rising distinct inRange goodBack memoryOf decode marked allBelow all goodPart goodBooks within every nothing isWhole goodWhole held
     concerned unmet minus select idsOf _∪_ Rattle.filter.specs.Table.idsOf
-first-tried = (refl, refl, refl, refl, refl, refl, refl)
+first-tried = (refl, refl, refl, refl, refl, refl, refl, refl)
 
 -- So a ledger is judged as far as it is there. In no room at all: nothing may be counted in state 0, nor may DONE have gone; in state 2 one that counts
 -- a hash or an ID is fine as far as it goes, and one that counts nothing is whole, so DONE must have gone. Then one mark of a table of one element is there.
@@ -245,9 +251,9 @@ acted-beside = (refl, refl)
 
 -- ---- the end
 
--- one hash demanded, which is 9; our DONE went
-abbrev pub owed : Ledger
-owed = record { inquired = 9 ∷ []; asked = []; offered = []; served = []; demanded = 9 ∷ []; gained = []; doneWent = true }
+-- one hash demanded, which is 9, and not yet there, or there; our DONE went
+abbrev pub owing : List ℕ → Ledger
+owing gained = record { inquired = 9 ∷ []; asked = []; offered = []; served = []; demanded = 9 ∷ []; gained = gained; doneWent = true }
 
 abbrev pub heardIn : ℕ → ℕ → Ledger → Content → ℕ × ℕ × List Content
 heardIn q far L c =
@@ -256,18 +262,19 @@ heardIn q far L c =
     (refusal (λ h. h) [] 9 s c, o .session .state, o .sent)
 
 pub ends :
-    -- "DONE in 2: only after our own was sent; then 4 if a demand is unmet, else the checksum is compared."
+    -- "DONE in 2: only after our own was sent; then .. the checksum is compared."
     (heardIn 2 0 noLedger (done 0) ≡ (5, 7, []))
-    × (heardIn 2 0 owed (done 9) ≡ (0, 4, []))
+    × (heardIn 2 0 (owing (9 ∷ [])) (done 9) ≡ (0, 6, []))
+    × (heardIn 2 0 (owing (9 ∷ [])) (done 8) ≡ (8, 7, []))
+    -- in 2 nothing is waited for: no session in form has a demand unmet there once our DONE went
+    × (heardIn 2 0 (owing []) (done 9) ≡ (8, 7, []))
     -- "DONE in 3: 5 if a demand is unmet, else compared, DONE sent."
-    × (heardIn 3 0 owed (done 9) ≡ (0, 5, []))
+    × (heardIn 3 0 (owing []) (done 9) ≡ (0, 5, []))
     × (heardIn 3 0 noLedger (done 0) ≡ (0, 6, done 0 ∷ []))
     × (heardIn 3 0 noLedger (done 1) ≡ (8, 7, []))
-    -- "In 4 and 5 the last ELEMENT compares, in 5 also sends DONE. Equal: 6."
-    × (heardIn 4 9 owed (element []) ≡ (0, 6, []))
-    × (heardIn 5 9 owed (element []) ≡ (0, 6, done 9 ∷ []))
-    × (heardIn 4 8 owed (element []) ≡ (8, 7, []))
-    × (heardIn 5 8 owed (element []) ≡ (8, 7, []))
-unfolding step refusal admitted entry tests bySlice unmet minus select elem agrees checksum held lastOne saysDone act change allCame all idsOf _∪_ insert
-    refused
+    -- "In .. 5 the last ELEMENT compares, in 5 also sends DONE. Equal: 6."
+    × (heardIn 5 9 (owing []) (element []) ≡ (0, 6, done 9 ∷ []))
+    × (heardIn 5 8 (owing []) (element []) ≡ (8, 7, []))
+unfolding step refusal admitted entry placeIn tests bySlice unmet minus select elem agrees checksum held lastOne waits saysDone act change allCame all
+    idsOf _∪_ insert refused
 ends = (refl, refl, refl, refl, refl, refl, refl, refl, refl)

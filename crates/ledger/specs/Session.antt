@@ -31,7 +31,7 @@ use Rattle.message.specs.Layout.{Content, slice, inquiry, offer, demand, elemen
 use Rattle.message.specs.Laying.{laid}
 use Rattle.message.specs.Writing.{inquiriesOf, offersOf, demandsOf, widthFor, slicesOf}
 use Rattle.filter.specs.Sets.{insert, _∪_, _∖_, isNil, all, once, news, count, implies}
-use Rattle.ledger.specs.Grid.{EXPECTING-LAST, ACTIVE, PASSIVE, CLOSING, WAITING, FINISHED, ABORTED, isLast, kindOf, entry}
+use Rattle.ledger.specs.Grid.{EXPECTING-LAST, ACTIVE, PASSIVE, WAITING, FINISHED, ABORTED, isLast, kindOf, entry}
 
 -- "The ledger keeps, without repeats, IDs inquired and asked, hashes offered, demanded and gained, and whether DONE went."
 pub record Ledger : Type 0 where
@@ -50,7 +50,7 @@ pub record Session : Type 0 where
   pub salt : ℕ
   pub width : ℕ  -- of the slice laid
   pub swaps : ℕ
-  pub far : ℕ  -- the far checksum, kept while a demand is unmet
+  pub far : ℕ  -- the far checksum, kept in Finish Waiting
   pub columns : Columns
   pub ours : List ℕ  -- the two lists of a reading
   pub theirs : List ℕ
@@ -185,6 +185,16 @@ clears n = eqb n (refusalNumber Swaps) || eqb n (refusalNumber Limit)
 abbrev pub stopped : ℕ → ℕ
 stopped q = cond (eqb q FINISHED) FINISHED ABORTED
 
+-- ---- demands unmet at the end
+
+-- an ELEMENT that leaves none, in Finish Waiting
+unfoldable pub lastOne : Session → Ledger → Bool
+lastOne s L = «in» s WAITING && isNil (unmet L)
+
+-- a DONE that finds one, in Passive Decoding; in Active Decoding, once our own DONE went, there is none (proofs/Lawful, none-unmet)
+unfoldable pub waits : Session → Bool
+waits s = «in» s PASSIVE && not (isNil (unmet (s .ledger)))
+
 module _ (derive : ℕ → ℕ) where
   unfoldable pub idsOf : List ℕ → List ℕ
   idsOf hs = map derive hs
@@ -262,10 +272,6 @@ module _ (derive : ℕ → ℕ) (table : List ℕ) where
   unfoldable pub agrees : ℕ → Ledger → Bool
   agrees c L = eqb c (checksum L)
 
-  -- an ELEMENT that leaves no demand unmet, in Finish Closing or Finish Waiting
-  unfoldable pub lastOne : Session → Ledger → Bool
-  lastOne s L = («in» s CLOSING || «in» s WAITING) && isNil (unmet L)
-
   -- what must hold of a message that the grid admits, in the order in which it is tried; h is the hash that the caller worked out for an ELEMENT
   unfoldable pub tests : ℕ → Session → Content → List (Refusal × Bool)
   tests h s (slice size offset salt width ids hashes counts) =
@@ -288,7 +294,7 @@ module _ (derive : ℕ → ℕ) (table : List ℕ) where
       ∷ []
   tests h s (done check) =
       (OutOfTurn, implies («in» s ACTIVE) (s .ledger .doneWent))
-      ∷ (Checksum, implies (isNil (unmet (s .ledger))) (agrees check (s .ledger)))
+      ∷ (Checksum, waits s || agrees check (s .ledger))
       ∷ []
 
   -- its number, 0 for none; a message that the grid does not admit is out of turn
@@ -320,11 +326,11 @@ module _ (derive : ℕ → ℕ) (table : List ℕ) where
       (cond (isComplete (readOf s c size salt)) (decoded s (readOf s c size salt) size salt) (swapped s (readOf s c size salt) size salt))
       (answer (sliced s c size salt width) [])
 
-  -- ELEMENT: "it is gained. In state 2 the last inquired one met makes DONE due." "In 4 and 5 the last ELEMENT compares, in 5 also sends DONE. Equal: 6."
+  -- ELEMENT: "it is gained. In state 2 the last inquired one met makes DONE due." "In .. 5 the last ELEMENT compares, in 5 also sends DONE. Equal: 6."
   unfoldable pub saysDone : Session → Ledger → Bool
-  saysDone s L = («in» s ACTIVE && allCame L) || («in» s WAITING && isNil (unmet L))
+  saysDone s L = («in» s ACTIVE && allCame L) || lastOne s L
 
-  -- DONE: "then 4 if a demand is unmet, else the checksum is compared. DONE in 3: 5 if a demand is unmet, else compared, DONE sent."
+  -- DONE: "in 2: only after our own was sent; then .. the checksum is compared. DONE in 3: 5 if a demand is unmet, else compared, DONE sent."
   unfoldable pub change : ℕ → Session → Content → Change
   change h s (slice size offset salt width ids hashes counts) = onward s (s .ledger) [] []
   change h s (inquiry salt xs) =
@@ -339,12 +345,11 @@ module _ (derive : ℕ → ℕ) (table : List ℕ) where
       let L = gaining h (s .ledger) in
       record { state = cond (lastOne s L) FINISHED (s .state); ledger = doneIf (saysDone s L) L; far = s .far; sent = cond (saysDone s L) (ownDone L) []; due = [] }
   change h s (done check) =
-      let ends = isNil (unmet (s .ledger)) in
-      let says = ends && «in» s PASSIVE in
+      let says = «in» s PASSIVE && isNil (unmet (s .ledger)) in
       record {
-        state = cond ends FINISHED (cond («in» s ACTIVE) CLOSING WAITING);
+        state = cond (waits s) WAITING FINISHED;
         ledger = doneIf says (s .ledger);
-        far = cond ends (s .far) check;
+        far = cond (waits s) check (s .far);
         sent = cond says (ownDone (s .ledger)) [];
         due = [];
       }

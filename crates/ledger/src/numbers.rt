@@ -1,5 +1,5 @@
 // The numbers of a session, lent and handed back by value; what a call answers; and the numbers of document 01 by name.
-// The states (document 01, "The session").
+// The states (document 01, "The session"; 4 is none, document 02, Req 04).
 pub const EXPECTING: u32 = 0;
 
 pub const EXPECTING_LAST: u32 = 1;
@@ -7,8 +7,6 @@ pub const EXPECTING_LAST: u32 = 1;
 pub const ACTIVE: u32 = 2;
 
 pub const PASSIVE: u32 = 3;
-
-pub const CLOSING: u32 = 4;
 
 pub const WAITING: u32 = 5;
 

@@ -2,20 +2,17 @@
 use mathlib.Core.Path.{_≡_, sym, ap, _∙_}
 use mathlib.Core.Bool.{Bool, true, false, cond}
 use mathlib.Core.List.{List, [], _∷_, foldr}
-use Prim.Native.Nat.{ℕ, _+_, _^_, _<_}
+use Prim.Native.Nat.{ℕ, _*_, _^_, _<_}
 use native.Mathlib.Omega.{arith}
 use lib.Bits.{bitXor, xor-lt}
-use lib.Dec.{eqb}
 use lib.ListN.{length, take}
 use lib.Pow.{pow-pos}
 use lib.Seq.{take-all}
 use Rattle.bucket.specs.Digits.{joined, packed}
-use Rattle.bucket.specs.Lists.{over, part}
+use Rattle.bucket.specs.Lists.{part}
 use Rattle.bucket.proofs.ListLaws.{elem-head, elem-tail}
 use Rattle.bucket.proofs.PackedLaws.{packed-below}
 use Rattle.filter.specs.Table.{hashesOf}
-use Rattle.message.specs.Layout.{done}
-use Rattle.message.specs.Writing.{layouts}
 use Rattle.message.proofs.WholeLaws.{packed-cons, field-here, whole-length}
 use Rattle.ledger.specs.Memory.{isMet, marked}
 use Rattle.ledger.proofs.BelowLaws.{Fit, hashes-fit, xor-fit}
@@ -52,14 +49,11 @@ bytes-sum x acc e short = rw e record { sum = number; size = whole-length 64 (x 
 pub sum-number : (x : ℕ) (acc : List ℕ) → Sum x acc → joined 8 (part 0 64 acc) ≡ x
 sum-number x acc s = ap (joined 8) (take-all 64 acc (omega (arith, s .size))) ∙ s .sum
 
--- a number compared with one in bytes
-pub sum-compared : (x a : ℕ) (acc : List ℕ) {r : Bool} → Sum x acc → r ≡ eqb a (joined 8 (part 0 64 acc)) → r ≡ eqb a x
-sum-compared x a acc s e = e ∙ ap (eqb a) (sum-number x acc s)
+-- the checksum of the table and of the met ones of the first n hashes of records
+abbrev pub checkIn : List ℕ → ℕ → List ℕ → List ℕ → ℕ
+checkIn table n records M = let known = hashesOf (take (64 * n) records) in checkOf (hashesOf table) known (part 4096 (length known) M)
 
--- a checksum sent: how many bytes, and which
-module _ (x : ℕ) (acc out : List ℕ) (s : Sum x acc) where
-  pub sum-count : {n : ℕ} → n ≡ 0 + length (layouts (done (joined 8 (take 64 acc)) ∷ [])) → n ≡ length (layouts (done x ∷ []))
-  sum-count e = omega (arith, e, ap (λ (y : ℕ). length (layouts (done y ∷ []))) (sum-number x acc s))
-
-  pub sum-sent : {out′ : List ℕ} → out′ ≡ over 0 (layouts (done (joined 8 (take 64 acc)) ∷ [])) out → out′ ≡ over 0 (layouts (done x ∷ [])) out
-  sum-sent e = e ∙ ap (λ (y : ℕ). over 0 (layouts (done y ∷ [])) out) (sum-number x acc s)
+pub check-made : (table : List ℕ) (n : ℕ) (records M acc : List ℕ) → acc ≡ packed 512 (checkIn table n records M ∷ []) → Sum (checkIn table n records M) acc
+check-made table n records M acc e =
+    let known = take (64 * n) records in
+    bytes-sum (checkIn table n records M) acc e (check-short table known (part 4096 (length (hashesOf known)) M))

@@ -17,9 +17,9 @@ use Rattle.ledger.specs.declared.numbers.Numbers.{Numbers}
 use Rattle.filter.specs.Sets.{insert, _∪_, all, once}
 use Rattle.ledger.specs.Grid.{entry}
 use Rattle.ledger.specs.Session.{Ledger, serving, tests, refusal, change}
-use Rattle.ledger.specs.Calls.{Given, Left, left, answered, tableOf, sessionOf, stepOn}
+use Rattle.ledger.specs.Calls.{Given, Left, left, tableOf, sessionOf, stepOn}
 use Rattle.session.specs.Moves.{placeOfHash, goAll, Walk, walk, isFine, serveAt, serveOne, serveAll}
-use Rattle.form.specs.Answers.{aborted, onward}
+use Rattle.form.specs.Answers.{aborted, changed}
 use Rattle.session.specs.Turns.{MarkTurn, markTurn, demandTurn}
 use Rattle.filter.proofs.SetLaws.{_∈_, clash, and-l, and-r, not-in-nil, elem-cons, elem-insert}
 use Rattle.filter.proofs.ListLaws.{once-same}
@@ -131,42 +131,34 @@ module _ (derive : ℕ → ℕ) (t M : List ℕ) (room : 8192 ≤ length M) wher
 
 -- ---- the turn
 
-module _ (G : Given) (s : Sound G) (hs : List ℕ) where
+module _ (G : Given) (s : Sound G) (timely : entry (G .numbers .state) 4 ≡ true) (hs : List ℕ) where
   abbrev N : Numbers
   N = G .numbers
 
   abbrev L : Ledger
   L = ledgerIn G
 
-  -- the turn, of its tests and a walk
-  abbrev turnBy : Bool → Bool → Walk → MarkTurn
-  turnBy admits fine w =
-      cond admits
-      (cond fine (markTurn (answered 0 0 (length hs) (onward N)) (over 0 (w .marks) (G .marks)) (over 0 (packed 512 hs) (G .out)))
-      (markTurn (aborted 7 N) (G .marks) (G .out)))
-      (markTurn (aborted 5 N) (G .marks) (G .out))
-
   abbrev leavesOf : MarkTurn → Left
   leavesOf x = leaves G (x .answer) (G .records) (x .marks) (x .out)
 
-  walked : Walk
-  walked = walkOver firstEight (tableOf G) (take 8192 (G .marks)) (front-room G s) L hs
-
-  is-walked : serveAll firstEight (tableOf G) (demandedIn G) hs (take 8192 (G .marks)) ≡ walked
-  unfolding walked
-  is-walked =
-      ap₂ (λ (k m : List ℕ). serveAll firstEight (tableOf G) k hs m) (sym (given-demanded G s)) (sym (front-marks G s))
+  abbrev walked : Walk
+  walked = serveAll firstEight (tableOf G) (demandedIn G) hs (take 8192 (G .marks))
 
   served : Served firstEight (tableOf G) (take 8192 (G .marks)) (front-room G s) L hs walked
-  unfolding walked
-  served = serve-walk firstEight (tableOf G) (take 8192 (G .marks)) (front-room G s) hs L (given-ordered G s)
+  served =
+      subst (Served firstEight (tableOf G) (take 8192 (G .marks)) (front-room G s) L hs)
+      (ap₂ (λ (k m : List ℕ). serveAll firstEight (tableOf G) k hs m) (given-demanded G s) (front-marks G s))
+      (serve-walk firstEight (tableOf G) (take 8192 (G .marks)) (front-room G s) hs L (given-ordered G s))
 
-  demand-refusal : {a b : Bool} → entry (N .state) 4 ≡ a → walked .fine ≡ b → refusalIn G (demand hs) ≡ refusalNumber (firstOf ((OutOfTurn, a) ∷ (Breach, b) ∷ []))
+  demand-refusal : {b : Bool} → walked .fine ≡ b → refusalIn G (demand hs) ≡ refusalNumber (firstOf ((Breach, b) ∷ []))
   unfolding refusal tests sessionOf
-  demand-refusal e g = λ i.
-      refusalNumber (firstOf ((OutOfTurn, (admitted-other (sessionIn G) (demand hs) refl ∙ e) i) ∷ (Breach, (sym (served .fine) ∙ g) i) ∷ []))
+  demand-refusal e = λ i.
+      refusalNumber (firstOf ((OutOfTurn, (admitted-other (sessionIn G) (demand hs) refl ∙ timely) i) ∷ (Breach, (sym (served .fine) ∙ e) i) ∷ []))
 
-  acted : walked .fine ≡ true → refusalIn G (demand hs) ≡ 0 → leavesOf (turnBy true true walked) ≡ stepOn firstEight (demand hs) G
+  abbrev taken : MarkTurn
+  taken = markTurn (changed N (N .state) (N .done) (N .demanded) 0 (length hs)) (over 0 (walked .marks) (G .marks)) (over 0 (packed 512 hs) (G .out))
+
+  acted : walked .fine ≡ true → refusalIn G (demand hs) ≡ 0 → leavesOf taken ≡ stepOn firstEight (demand hs) G
   unfolding change sessionOf layouts
   acted g is =
       change-tie G s (demand hs) refl (changeIn G (demand hs)) (N .done) (N .demanded) (G .records) (over 0 (walked .marks) (G .marks)) (over 0 (packed 512 hs) (G .out))
@@ -180,14 +172,12 @@ module _ (G : Given) (s : Sound G) (hs : List ℕ) where
       })
       is refl
 
-  by-cases : (a b : Bool) → entry (N .state) 4 ≡ a → walked .fine ≡ b → leavesOf (turnBy a b walked) ≡ stepOn firstEight (demand hs) G
-  by-cases false b e g = halted-tie G s (demand hs) 5 refl refl (demand-refusal e g)
-  by-cases true false e g = halted-tie G s (demand hs) 7 refl refl (demand-refusal e g)
-  by-cases true true e g = acted g (demand-refusal e g)
+  by-cases : (b : Bool) → walked .fine ≡ b → leavesOf (cond b taken (markTurn (aborted 7 N) (G .marks) (G .out))) ≡ stepOn firstEight (demand hs) G
+  by-cases false e = halted-tie G s (demand hs) 7 refl refl (demand-refusal e)
+  by-cases true e = acted e (demand-refusal e)
 
   pub demand-tie :
       let x = demandTurn N (tableOf G) (hashesOf (take (64 * N .demanded) (G .records))) hs (G .marks) (G .out) in
       left (x .answer) (G .records) (x .marks) (G .inquired) (G .columns) (G .ours) (G .theirs) (x .out) ≡ stepOn firstEight (demand hs) G
   unfolding demandTurn
-  demand-tie =
-      ap (λ (w : Walk). leavesOf (turnBy (entry (N .state) 4) (w .fine) w)) is-walked ∙ by-cases (entry (N .state) 4) (walked .fine) refl refl
+  demand-tie = by-cases (walked .fine) refl

@@ -15,12 +15,10 @@ use Rattle.filter.specs.Table.{firstEight, hashesOf}
 use Rattle.message.specs.Writing.{layouts, offersOf}
 use Rattle.ledger.specs.declared.numbers.Numbers.{Numbers}
 use Rattle.ledger.specs.declared.numbers.Answer.{Answer}
-use Rattle.ledger.specs.Grid.{entry}
-use Rattle.ledger.specs.Calls.{answered}
 use Rattle.ledger.proofs.BelowLaws.{hashes-written}
 use Rattle.session.specs.Moves.{Walk, askAll}
 use Rattle.session.specs.Ready.{Walked}
-use Rattle.form.specs.Answers.{aborted, onward}
+use Rattle.form.specs.Answers.{aborted, changed}
 use Rattle.session.specs.Turns.{MarkTurn, markTurn, inquiryTurn}
 use Rattle.session.proofs.CopyLaws.{copied-out, copied-back}
 use Rattle.ledger.proofs.RoomLaws.{offers-room}
@@ -75,45 +73,42 @@ module _ (N : Numbers) (table known : List ℕ) (salt : ℕ) (xs M out : List �
   abbrev turn : MarkTurn
   turn = inquiryTurn N (hashesOf table) (hashesOf known) salt xs M out
 
+  abbrev answer : ℕ → Answer
+  answer sent = changed N (N .state) (N .done) (N .demanded) sent 0
+
   abbrev taken : MarkTurn
   taken =
       let w = asked table known xs M in
-      markTurn (answered 0 (length (layouts (offersOf (w .hashes)))) 0 (onward N)) (over 0 (w .marks) M) (over 0 (layouts (offersOf (w .hashes))) out)
+      markTurn (answer (length (layouts (offersOf (w .hashes))))) (over 0 (w .marks) M) (over 0 (layouts (offersOf (w .hashes))) out)
 
   abbrev aborts : ℕ → MarkTurn
   aborts n = markTurn (aborted n N) M out
 
-  decided : {a b c : Bool} → entry (N .state) 2 ≡ a → eqb salt (N .salt) ≡ b → asked table known xs M .fine ≡ c
-      → cond a (cond b (cond c taken (aborts 7)) (aborts 7)) (aborts 5) ≡ turn
+  decided : {a b : Bool} → eqb salt (N .salt) ≡ a → asked table known xs M .fine ≡ b → cond a (cond b taken (aborts 7)) (aborts 7) ≡ turn
   unfolding inquiryTurn
-  decided e f g = λ i. cond (sym e i) (cond (sym f i) (cond (sym g i) taken (aborts 7)) (aborts 7)) (aborts 5)
+  decided e f = λ i. cond (sym e i) (cond (sym f i) taken (aborts 7)) (aborts 7)
 
-  pub inquiry-untimely : {r : Answer} → entry (N .state) 2 ≡ false → r ≡ aborted 5 N → markTurn r M out ≡ turn
-  inquiry-untimely e is = ap (λ (r : Answer). markTurn r M out) is ∙ decided e refl refl
+  pub inquiry-salted : {r : Answer} → (salt ≡ N .salt → ⊥) → r ≡ aborted 7 N → markTurn r M out ≡ turn
+  inquiry-salted f is = ap (λ (r : Answer). markTurn r M out) is ∙ decided (ne-eqb salt (N .salt) f) refl
 
-  module _ (timely : entry (N .state) 2 ≡ true) where
-    pub inquiry-salted : {r : Answer} → (salt ≡ N .salt → ⊥) → r ≡ aborted 7 N → markTurn r M out ≡ turn
-    inquiry-salted f is = ap (λ (r : Answer). markTurn r M out) is ∙ decided timely (ne-eqb salt (N .salt) f) refl
+  module _ (same : salt ≡ N .salt) {fine : Bool} {count : ℕ} {work bytes : List ℕ} (went : Inquired table known xs M fine count work bytes) where
+    pub inquiry-bad : {r : Answer} → fine ≡ false → r ≡ aborted 7 N → markTurn r M out ≡ turn
+    inquiry-bad e is = ap (λ (r : Answer). markTurn r M out) is ∙ decided (eq-eqb salt (N .salt) same) (went .judged ∙ e)
 
-    module _ (same : salt ≡ N .salt) {fine : Bool} {count : ℕ} {work bytes : List ℕ} (went : Inquired table known xs M fine count work bytes) where
-      pub inquiry-bad : {r : Answer} → fine ≡ false → r ≡ aborted 7 N → markTurn r M out ≡ turn
-      inquiry-bad e is = ap (λ (r : Answer). markTurn r M out) is ∙ decided timely (eq-eqb salt (N .salt) same) (went .judged ∙ e)
+    pub inquiry-taken : {r : Answer} {sent : ℕ} {M′ out′ : List ℕ} → fine ≡ true → r ≡ answer sent → M′ ≡ over 0 (part 0 8192 work) M
+        → (sent ≡ 0 + length (layouts (offersOf (hashesOf (take (64 * count) bytes))))) × (out′ ≡ over 0 (layouts (offersOf (hashesOf (take (64 * count) bytes)))) out)
+        → markTurn r M′ out′ ≡ turn
+    inquiry-taken {r} {sent} {M′} {out′} e is back (many, wrote) =
+        (λ i. markTurn ((is ∙ ap answer long) i) (marks i) (written i)) ∙ decided (eq-eqb salt (N .salt) same) (went .judged ∙ e)
+      where
+        w : Walk
+        w = asked table known xs M
 
-      pub inquiry-taken : {r : Answer} {sent : ℕ} {next : Numbers} {M′ out′ : List ℕ} → fine ≡ true
-          → r ≡ answered 0 sent 0 next → next ≡ onward N → M′ ≡ over 0 (part 0 8192 work) M
-          → (sent ≡ 0 + length (layouts (offersOf (hashesOf (take (64 * count) bytes))))) × (out′ ≡ over 0 (layouts (offersOf (hashesOf (take (64 * count) bytes)))) out)
-          → markTurn r M′ out′ ≡ turn
-      inquiry-taken {r} {sent} {next} {M′} {out′} e is on back (many, wrote) =
-          (λ i. markTurn (answer i) (marks i) (written i)) ∙ decided timely (eq-eqb salt (N .salt) same) (went .judged ∙ e)
-        where
-          w : Walk
-          w = asked table known xs M
+        long : sent ≡ length (layouts (offersOf (w .hashes)))
+        long = many ∙ zero-add (length (layouts (offersOf (hashesOf (take (64 * count) bytes))))) ∙ ap (λ (hs : List ℕ). length (layouts (offersOf hs))) (went .hashes e)
 
-          answer : r ≡ answered 0 (length (layouts (offersOf (w .hashes)))) 0 (onward N)
-          answer = is ∙ ap₂ (λ (n : ℕ) (m : Numbers). answered 0 n 0 m) (many ∙ zero-add (length (layouts (offersOf (hashesOf (take (64 * count) bytes))))) ∙ ap (λ (hs : List ℕ). length (layouts (offersOf hs))) (went .hashes e)) on
+        marks : M′ ≡ over 0 (w .marks) M
+        marks = back ∙ copied-back 8192 M work (went .long e) ∙ ap (λ (l : List ℕ). over 0 l M) (went .marks e)
 
-          marks : M′ ≡ over 0 (w .marks) M
-          marks = back ∙ copied-back 8192 M work (went .long e) ∙ ap (λ (l : List ℕ). over 0 l M) (went .marks e)
-
-          written : out′ ≡ over 0 (layouts (offersOf (w .hashes))) out
-          written = wrote ∙ ap (λ (hs : List ℕ). over 0 (layouts (offersOf hs)) out) (went .hashes e)
+        written : out′ ≡ over 0 (layouts (offersOf (w .hashes))) out
+        written = wrote ∙ ap (λ (hs : List ℕ). over 0 (layouts (offersOf hs)) out) (went .hashes e)

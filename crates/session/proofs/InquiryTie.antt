@@ -16,8 +16,8 @@ use Rattle.message.specs.Layout.{Content, inquiry}
 use Rattle.message.specs.Writing.{layouts, offersOf}
 use Rattle.ledger.specs.declared.numbers.Numbers.{Numbers}
 use Rattle.ledger.specs.Grid.{entry}
-use Rattle.ledger.specs.Calls.{Given, Left, left, answered, tableOf, sessionOf, stepOn}
-use Rattle.form.specs.Answers.{aborted, onward}
+use Rattle.ledger.specs.Calls.{Given, Left, left, tableOf, sessionOf, stepOn}
+use Rattle.form.specs.Answers.{aborted, changed}
 use Rattle.session.specs.Turns.{MarkTurn, markTurn, inquiryTurn}
 use Rattle.ledger.proofs.Sound.{Sound}
 use Rattle.ledger.proofs.GivenLaws.{given-demanded, same-records}
@@ -187,7 +187,7 @@ module _ (derive : ℕ → ℕ) (t M : List ℕ) (room : 8192 ≤ length M) wher
 
 -- ---- the turn
 
-module _ (G : Given) (s : Sound G) (salt : ℕ) (xs : List ℕ) where
+module _ (G : Given) (s : Sound G) (timely : entry (G .numbers .state) 2 ≡ true) (salt : ℕ) (xs : List ℕ) where
   abbrev N : Numbers
   N = G .numbers
 
@@ -197,43 +197,33 @@ module _ (G : Given) (s : Sound G) (salt : ℕ) (xs : List ℕ) where
   abbrev found : List ℕ
   found = asks firstEight (tableOf G) L xs
 
-  -- the turn, of its tests and a walk
-  abbrev turnBy : Bool → Bool → Bool → Walk → MarkTurn
-  turnBy admits salted fine w =
-      cond admits
-      (cond salted
-      (cond fine
-      (markTurn (answered 0 (length (layouts (offersOf (w .hashes)))) 0 (onward N)) (over 0 (w .marks) (G .marks)) (over 0 (layouts (offersOf (w .hashes))) (G .out)))
-      (markTurn (aborted 7 N) (G .marks) (G .out)))
-      (markTurn (aborted 7 N) (G .marks) (G .out)))
-      (markTurn (aborted 5 N) (G .marks) (G .out))
-
   abbrev leavesOf : MarkTurn → Left
   leavesOf x = leaves G (x .answer) (G .records) (x .marks) (x .out)
 
-  walked : Walk
-  walked = goAll isFine (askOne firstEight (tableOf G) (L .demanded)) xs (walk true (laidMarks firstEight (tableOf G) L (take 8192 (G .marks))) [])
-
-  is-walked : askAll firstEight (tableOf G) (demandedIn G) xs (take 8192 (G .marks)) ≡ walked
-  unfolding walked
-  is-walked =
-      ap₂ (λ (k m : List ℕ). askAll firstEight (tableOf G) k xs m) (sym (given-demanded G s)) (sym (front-marks G s))
+  abbrev walked : Walk
+  walked = askAll firstEight (tableOf G) (demandedIn G) xs (take 8192 (G .marks))
 
   asked : Asked firstEight (tableOf G) (take 8192 (G .marks)) (front-room G s) L [] found walked
-  unfolding walked
-  asked = ask-walk firstEight (tableOf G) (take 8192 (G .marks)) (front-room G s) xs L (given-ordered G s) [] (omega arith)
+  asked =
+      subst (Asked firstEight (tableOf G) (take 8192 (G .marks)) (front-room G s) L [] found)
+      (ap₂ (λ (k m : List ℕ). askAll firstEight (tableOf G) k xs m) (given-demanded G s) (front-marks G s))
+      (ask-walk firstEight (tableOf G) (take 8192 (G .marks)) (front-room G s) xs L (given-ordered G s) [] (omega arith))
 
-  inquiry-refusal : {a b c : Bool} → entry (N .state) 2 ≡ a → eqb salt (N .salt) ≡ b → walked .fine ≡ c
-      → refusalIn G (inquiry salt xs) ≡ refusalNumber (firstOf ((OutOfTurn, a) ∷ (Breach, b && c) ∷ []))
+  inquiry-refusal : {a b : Bool} → eqb salt (N .salt) ≡ a → walked .fine ≡ b → refusalIn G (inquiry salt xs) ≡ refusalNumber (firstOf ((Breach, a && b) ∷ []))
   unfolding refusal tests sessionOf
-  inquiry-refusal e f g = λ i.
-      refusalNumber (firstOf ((OutOfTurn, (admitted-other (sessionIn G) (inquiry salt xs) refl ∙ e) i) ∷ (Breach, f i && (sym (asked .fine) ∙ g) i) ∷ []))
+  inquiry-refusal e f = λ i.
+      refusalNumber (firstOf ((OutOfTurn, (admitted-other (sessionIn G) (inquiry salt xs) refl ∙ timely) i) ∷ (Breach, e i && (sym (asked .fine) ∙ f) i) ∷ []))
 
-  acted : walked .fine ≡ true → refusalIn G (inquiry salt xs) ≡ 0 → leavesOf (turnBy true true true walked) ≡ stepOn firstEight (inquiry salt xs) G
+  -- the turn of a good INQUIRY, of the hashes it offers
+  abbrev taken : List ℕ → MarkTurn
+  taken hs =
+      let cs = offersOf hs in
+      markTurn (changed N (N .state) (N .done) (N .demanded) (length (layouts cs)) 0) (over 0 (walked .marks) (G .marks)) (over 0 (layouts cs) (G .out))
+
+  acted : walked .fine ≡ true → refusalIn G (inquiry salt xs) ≡ 0 → leavesOf (taken (walked .hashes)) ≡ stepOn firstEight (inquiry salt xs) G
   unfolding change sessionOf
   acted g is =
-      ap (λ (hs : List ℕ). leavesOf (markTurn (answered 0 (length (layouts (offersOf hs))) 0 (onward N)) (over 0 (walked .marks) (G .marks)) (over 0 (layouts (offersOf hs)) (G .out))))
-      (asked .gathered fine)
+      ap (λ (hs : List ℕ). leavesOf (taken hs)) (asked .gathered fine)
       ∙ change-tie G s (inquiry salt xs) refl (changeIn G (inquiry salt xs)) (N .done) (N .demanded) (G .records) (over 0 (walked .marks) (G .marks)) (over 0 (layouts sent) (G .out))
       (record {
         inquired = refl;
@@ -251,16 +241,17 @@ module _ (G : Given) (s : Sound G) (salt : ℕ) (xs : List ℕ) where
       sent : List Content
       sent = offersOf (hashesFor firstEight (tableOf G) L found)
 
-  by-cases : (a b c : Bool) → entry (N .state) 2 ≡ a → eqb salt (N .salt) ≡ b → walked .fine ≡ c → leavesOf (turnBy a b c walked) ≡ stepOn firstEight (inquiry salt xs) G
-  by-cases false b c e f g = halted-tie G s (inquiry salt xs) 5 refl refl (inquiry-refusal e f g)
-  by-cases true false c e f g = halted-tie G s (inquiry salt xs) 7 refl refl (inquiry-refusal e f g)
-  by-cases true true false e f g = halted-tie G s (inquiry salt xs) 7 refl refl (inquiry-refusal e f g)
-  by-cases true true true e f g = acted g (inquiry-refusal e f g)
+  abbrev stops : MarkTurn
+  stops = markTurn (aborted 7 N) (G .marks) (G .out)
+
+  by-cases : (a b : Bool) → eqb salt (N .salt) ≡ a → walked .fine ≡ b
+      → leavesOf (cond a (cond b (taken (walked .hashes)) stops) stops) ≡ stepOn firstEight (inquiry salt xs) G
+  by-cases false b e f = halted-tie G s (inquiry salt xs) 7 refl refl (inquiry-refusal e f)
+  by-cases true false e f = halted-tie G s (inquiry salt xs) 7 refl refl (inquiry-refusal e f)
+  by-cases true true e f = acted f (inquiry-refusal e f)
 
   pub inquiry-tie :
       let x = inquiryTurn N (tableOf G) (hashesOf (take (64 * N .demanded) (G .records))) salt xs (G .marks) (G .out) in
       left (x .answer) (G .records) (x .marks) (G .inquired) (G .columns) (G .ours) (G .theirs) (x .out) ≡ stepOn firstEight (inquiry salt xs) G
   unfolding inquiryTurn
-  inquiry-tie =
-      ap (λ (w : Walk). leavesOf (turnBy (entry (N .state) 2) (eqb salt (N .salt)) (w .fine) w)) is-walked
-      ∙ by-cases (entry (N .state) 2) (eqb salt (N .salt)) (walked .fine) refl refl refl
+  inquiry-tie = by-cases (eqb salt (N .salt)) (walked .fine) refl refl

@@ -127,7 +127,6 @@ module _ (G : Given) (s : Sound G) where
     last-ready e = record {
       lays = slice-lays (ap isSlice e);
       table-good = given-table G s;
-      state = omega (arith, s .state);
       range = last-range (G .message) size offset salt width n e;
       granted = last-reads e;
       ours-room = leb-true 4096 (length (G .ours)) ours-room;

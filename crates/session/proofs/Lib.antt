@@ -10,11 +10,9 @@ pub mod DemandSteps
 pub mod PlaceLaws
 pub mod PlaceTie
 pub mod DemandTie
-pub mod DoneSteps
 pub mod TurnLaws
-pub mod DoneTie
-pub mod ElementSteps
-pub mod ElementTie
+pub mod DoneLaws
+pub mod ElementLaws
 pub mod GatheredLaws
 pub mod InFormLaws
 pub mod WalkedLaws
@@ -29,12 +27,12 @@ pub mod LastTie
 pub mod LastTurns
 pub mod LayTurns
 pub mod SaidLaws
-pub mod LedgerSteps
 pub mod OfferCount
 pub mod OfferMemory
 pub mod OfferPlaces
 pub mod OfferNews
 pub mod OfferTie
+pub mod ScreenLaws
 pub mod LedgerTie
 pub mod OfferAllLaws
 pub mod OfferLaws

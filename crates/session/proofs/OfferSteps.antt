@@ -12,12 +12,11 @@ use Rattle.filter.specs.Table.{firstEight, hashesOf}
 use Rattle.message.specs.Writing.{layouts, demandsOf}
 use Rattle.ledger.specs.declared.numbers.Numbers.{Numbers}
 use Rattle.ledger.specs.declared.numbers.Answer.{Answer}
-use Rattle.ledger.specs.Grid.{ACTIVE, entry}
-use Rattle.ledger.specs.Calls.{answered}
+use Rattle.ledger.specs.Grid.{ACTIVE}
 use Rattle.ledger.proofs.BelowLaws.{Fit, hashes-written}
 use Rattle.session.specs.Moves.{News, newAll, extra, Stored, stored, storeAll}
 use Rattle.session.specs.Ready.{Offered}
-use Rattle.form.specs.Answers.{aborted, withDemanded}
+use Rattle.form.specs.Answers.{aborted, changed}
 use Rattle.session.specs.Turns.{OfferTurn, offerTurn′, offerTurn}
 use Rattle.ledger.proofs.RoomLaws.{demands-room}
 use Rattle.session.proofs.WalkedLaws.{new-short}
@@ -57,28 +56,28 @@ module _ (N : Numbers) (table known I hs : List ℕ) (concerned : ℕ) (R M out 
   abbrev turn : OfferTurn
   turn = offerTurn N (hashesOf table) (hashesOf known) I hs concerned R M out
 
+  abbrev answer : ℕ → ℕ → Answer
+  answer count sent = changed N (N .state) (N .done) (N .demanded + count) sent 0
+
   abbrev taken : OfferTurn
   taken =
       let cs = demandsOf (here .hashes) in
-      offerTurn′ (answered 0 (length (layouts cs)) 0 (withDemanded N (N .demanded + length (here .hashes)))) (storeAll (N .demanded) (here .hashes) (stored R M)) (over 0 (layouts cs) out)
+      offerTurn′ (answer (length (here .hashes)) (length (layouts cs))) (storeAll (N .demanded) (here .hashes) (stored R M)) (over 0 (layouts cs) out)
 
   abbrev aborts : ℕ → OfferTurn
   aborts n = offerTurn′ (aborted n N) (stored R M) out
 
-  decided : {a b c : Bool} → entry (N .state) 3 ≡ a → here .fine ≡ b → ltb 4096 (concerned + extra firstEight I (here .hashes)) || ltb 4096 (N .demanded + length (here .hashes)) ≡ c
-      → cond a (cond b (cond c (aborts 10) taken) (aborts 7)) (aborts 5) ≡ turn
+  decided : {a b : Bool} → here .fine ≡ a → ltb 4096 (concerned + extra firstEight I (here .hashes)) || ltb 4096 (N .demanded + length (here .hashes)) ≡ b
+      → cond a (cond b (aborts 10) taken) (aborts 7) ≡ turn
   unfolding offerTurn
-  decided e f g = λ i. cond (sym e i) (cond (sym f i) (cond (sym g i) (aborts 10) taken) (aborts 7)) (aborts 5)
+  decided e f = λ i. cond (sym e i) (cond (sym f i) (aborts 10) taken) (aborts 7)
 
   aborting : {r : Answer} {n : ℕ} → r ≡ aborted n N → offerTurn′ r (stored R M) out ≡ aborts n
   aborting is = ap (λ (r : Answer). offerTurn′ r (stored R M) out) is
 
-  pub offer-untimely : {r : Answer} → entry (N .state) 3 ≡ false → r ≡ aborted 5 N → offerTurn′ r (stored R M) out ≡ turn
-  offer-untimely e is = aborting is ∙ decided e refl refl
-
-  module _ (timely : entry (N .state) 3 ≡ true) {fine : Bool} {count : ℕ} {bytes : List ℕ} (went : Found table known I (eqb (N .state) ACTIVE) hs fine count bytes) where
+  module _ {fine : Bool} {count : ℕ} {bytes : List ℕ} (went : Found table known I (eqb (N .state) ACTIVE) hs fine count bytes) where
     pub offer-bad : {r : Answer} → fine ≡ false → r ≡ aborted 7 N → offerTurn′ r (stored R M) out ≡ turn
-    offer-bad e is = aborting is ∙ decided timely (went .judged ∙ e) refl
+    offer-bad e is = aborting is ∙ decided (went .judged ∙ e) refl
 
     module _ (e : fine ≡ true) {more : ℕ} (counted : more ≡ extra firstEight I (hashesOf (take (64 * count) bytes))) where
       too-many : {b : Bool} → ltb 4096 (concerned + more) || ltb 4096 (N .demanded + count) ≡ b
@@ -87,23 +86,20 @@ module _ (N : Numbers) (table known I hs : List ℕ) (concerned : ℕ) (R M out 
           ap₂ (λ (x y : ℕ). ltb 4096 (concerned + x) || ltb 4096 (N .demanded + y)) (sym (counted ∙ ap (extra firstEight I) (went .hashes e))) (sym (went .many e)) ∙ f
 
       pub offer-over : {r : Answer} → ltb 4096 (concerned + more) || ltb 4096 (N .demanded + count) ≡ true → r ≡ aborted 10 N → offerTurn′ r (stored R M) out ≡ turn
-      offer-over f is = aborting is ∙ decided timely (went .judged ∙ e) (too-many f)
+      offer-over f is = aborting is ∙ decided (went .judged ∙ e) (too-many f)
 
-      pub offer-taken : {r : Answer} {sent : ℕ} {next : Numbers} {s : Stored} {out′ : List ℕ} → ltb 4096 (concerned + more) || ltb 4096 (N .demanded + count) ≡ false
-          → r ≡ answered 0 sent 0 next → next ≡ withDemanded N (N .demanded + count) → s ≡ storeAll (N .demanded) (hashesOf (take (64 * count) bytes)) (stored R M)
+      pub offer-taken : {r : Answer} {sent : ℕ} {s : Stored} {out′ : List ℕ} → ltb 4096 (concerned + more) || ltb 4096 (N .demanded + count) ≡ false
+          → r ≡ answer count sent → s ≡ storeAll (N .demanded) (hashesOf (take (64 * count) bytes)) (stored R M)
           → (sent ≡ 0 + length (layouts (demandsOf (hashesOf (take (64 * count) bytes))))) × (out′ ≡ over 0 (layouts (demandsOf (hashesOf (take (64 * count) bytes)))) out)
           → offerTurn′ r s out′ ≡ turn
-      offer-taken {r} {sent} {next} {s} {out′} f is on kept (long, wrote) =
-          (λ i. offerTurn′ (answer i) (records i) (written i)) ∙ decided timely (went .judged ∙ e) (too-many f)
+      offer-taken {r} {sent} {s} {out′} f is kept (long, wrote) =
+          (λ i. offerTurn′ ((is ∙ ap₂ answer (went .many e) size) i) (records i) (written i)) ∙ decided (went .judged ∙ e) (too-many f)
         where
           said : hashesOf (take (64 * count) bytes) ≡ here .hashes
           said = went .hashes e
 
-          answer : r ≡ answered 0 (length (layouts (demandsOf (here .hashes)))) 0 (withDemanded N (N .demanded + length (here .hashes)))
-          answer =
-              is
-              ∙ ap₂ (λ (n : ℕ) (m : Numbers). answered 0 n 0 m) (long ∙ zero-add (length (layouts (demandsOf (hashesOf (take (64 * count) bytes))))) ∙ ap (λ (l : List ℕ). length (layouts (demandsOf l))) said)
-              (on ∙ ap (λ (m : ℕ). withDemanded N (N .demanded + m)) (went .many e))
+          size : sent ≡ length (layouts (demandsOf (here .hashes)))
+          size = long ∙ zero-add (length (layouts (demandsOf (hashesOf (take (64 * count) bytes))))) ∙ ap (λ (l : List ℕ). length (layouts (demandsOf l))) said
 
           records : s ≡ storeAll (N .demanded) (here .hashes) (stored R M)
           records = kept ∙ ap (λ (l : List ℕ). storeAll (N .demanded) l (stored R M)) said

@@ -19,11 +19,11 @@ use Rattle.message.specs.Layout.{offer}
 use Rattle.message.specs.Writing.{layouts, demandsOf}
 use Rattle.ledger.specs.Grid.{ACTIVE, entry}
 use Rattle.ledger.specs.Session.{Ledger, «in», idsOf, held, concerned, new, allowed, tests, refusal, change}
-use Rattle.ledger.specs.Calls.{Given, Left, left, answered, tableOf, sessionOf, stepOn}
+use Rattle.ledger.specs.Calls.{Given, Left, left, tableOf, sessionOf, stepOn}
 use Rattle.ledger.proofs.GridLaws.{admitted-other}
 use Rattle.ledger.proofs.BelowLaws.{Fit}
 use Rattle.session.specs.Moves.{News, newAll, extra, stored, storeAll}
-use Rattle.form.specs.Answers.{aborted, withDemanded}
+use Rattle.form.specs.Answers.{aborted, changed}
 use Rattle.session.specs.Turns.{OfferTurn, offerTurn′, offerTurn}
 use Rattle.ledger.proofs.Sound.{Sound}
 use Rattle.ledger.proofs.GivenLaws.{given-table, given-known, given-books, given-few, given-demanded, given-inquired}
@@ -32,7 +32,7 @@ use Rattle.session.proofs.OfferNews.{new-fine, new-hashes}
 use Rattle.session.proofs.OfferCount.{new-full, new-room}
 use Rattle.session.proofs.OfferMemory.{demanded-long, offer-records, offer-marks}
 
-module _ (G : Given) (s : Sound G) (hs : List ℕ) where
+module _ (G : Given) (s : Sound G) (timely : entry (G .numbers .state) 3 ≡ true) (hs : List ℕ) where
   abbrev t : List ℕ
   t = tableOf G
 
@@ -50,11 +50,10 @@ module _ (G : Given) (s : Sound G) (hs : List ℕ) where
 
   -- ---- what the session says
 
-  offer-refusal : {a b c : Bool} → entry (G .numbers .state) 3 ≡ a → right ≡ b → fits ≡ c
-      → refusalIn G (offer hs) ≡ refusalNumber (firstOf ((OutOfTurn, a) ∷ (Breach, b) ∷ (Limit, c) ∷ []))
+  offer-refusal : {a b : Bool} → right ≡ a → fits ≡ b → refusalIn G (offer hs) ≡ refusalNumber (firstOf ((Breach, a) ∷ (Limit, b) ∷ []))
   unfolding refusal tests sessionOf
-  offer-refusal e f g = λ i.
-      refusalNumber (firstOf ((OutOfTurn, (admitted-other (sessionIn G) (offer hs) refl ∙ e) i) ∷ (Breach, f i) ∷ (Limit, g i) ∷ []))
+  offer-refusal e f = λ i.
+      refusalNumber (firstOf ((OutOfTurn, (admitted-other (sessionIn G) (offer hs) refl ∙ timely) i) ∷ (Breach, e i) ∷ (Limit, f i) ∷ []))
 
   -- ---- what the turn computes
 
@@ -64,7 +63,7 @@ module _ (G : Given) (s : Sound G) (hs : List ℕ) where
   abbrev granting : List ℕ → OfferTurn
   granting q =
       offerTurn′
-      (answered 0 (length (layouts (demandsOf q))) 0 (withDemanded (G .numbers) (G .numbers .demanded + length q)))
+      (changed (G .numbers) (G .numbers .state) (G .numbers .done) (G .numbers .demanded + length q) (length (layouts (demandsOf q))) 0)
       (storeAll (G .numbers .demanded) q (stored (G .records) (G .marks))) (over 0 (layouts (demandsOf q)) (G .out))
 
   -- no two share an ID where the OFFER is allowed
@@ -95,22 +94,17 @@ module _ (G : Given) (s : Sound G) (hs : List ℕ) where
         ap₂ (λ (c n : ℕ). ltb 4096 (c + extra firstEight (L .inquired) rest) || ltb 4096 (n + length rest)) is (sym (given-long G s))
         ∙ new-full firstEight t L (given-books G s) rest (no-shared e)
 
-    turn-is : offerTurn (G .numbers) t (L .demanded) (L .inquired) hs concernedCount (G .records) (G .marks) (G .out)
-        ≡ cond (entry (G .numbers .state) 3) (cond right (cond (not fits) (refusedWith 10) (granting rest)) (refusedWith 7)) (refusedWith 5)
-    unfolding offerTurn sessionOf
-    turn-is = ap (λ (r : OfferTurn). cond (entry (G .numbers .state) 3) r (refusedWith 5)) (go right refl)
-      where
-        inner : List ℕ → OfferTurn
-        inner q =
-            cond (ltb 4096 (concernedCount + extra firstEight (L .inquired) q) || ltb 4096 (G .numbers .demanded + length q))
-            (refusedWith 10) (granting q)
+    abbrev inner : List ℕ → OfferTurn
+    inner q = cond (ltb 4096 (concernedCount + extra firstEight (L .inquired) q) || ltb 4096 (G .numbers .demanded + length q)) (refusedWith 10) (granting q)
 
-        go : (b : Bool) → right ≡ b → cond (w .fine) (inner (w .hashes)) (refusedWith 7) ≡ cond b (cond (not fits) (refusedWith 10) (granting rest)) (refusedWith 7)
-        go false e = ap (λ (f : Bool). cond f (inner (w .hashes)) (refusedWith 7)) (fine-is ∙ e)
-        go true e =
-            ap (λ (f : Bool). cond f (inner (w .hashes)) (refusedWith 7)) (fine-is ∙ e)
-            ∙ ap inner (hashes-are (fine-is ∙ e))
-            ∙ ap (λ (b : Bool). cond b (refusedWith 10) (granting rest)) (full-is e)
+    turn-is : (a : Bool) → right ≡ a → offerTurn (G .numbers) t (L .demanded) (L .inquired) hs concernedCount (G .records) (G .marks) (G .out)
+        ≡ cond a (cond (not fits) (refusedWith 10) (granting rest)) (refusedWith 7)
+    unfolding offerTurn sessionOf
+    turn-is false e = ap (λ (f : Bool). cond f (inner (w .hashes)) (refusedWith 7)) (fine-is ∙ e)
+    turn-is true e =
+        ap (λ (f : Bool). cond f (inner (w .hashes)) (refusedWith 7)) (fine-is ∙ e)
+        ∙ ap inner (hashes-are (fine-is ∙ e))
+        ∙ ap (λ (b : Bool). cond b (refusedWith 10) (granting rest)) (full-is e)
 
   -- ---- both ways
 
@@ -142,18 +136,18 @@ module _ (G : Given) (s : Sound G) (hs : List ℕ) where
       few : G .numbers .demanded + length rest ≤ 4096
       few = rw (given-long G s) at (new-room firstEight t L (given-books G s) rest (no-shared e) f)
 
-  same-ways : Fit 512 hs → (a : Bool) → entry (G .numbers .state) 3 ≡ a → (b : Bool) → right ≡ b → (c : Bool) → fits ≡ c
-      → leavesOf (cond a (cond b (cond (not c) (refusedWith 10) (granting rest)) (refusedWith 7)) (refusedWith 5)) ≡ stepOn firstEight (offer hs) G
-  same-ways short false e b f c g = halted-tie G s (offer hs) 5 refl refl (offer-refusal e f g)
-  same-ways short true e false f c g = halted-tie G s (offer hs) 7 refl refl (offer-refusal e f g)
-  same-ways short true e true f false g = halted-tie G s (offer hs) 10 refl refl (offer-refusal e f g)
-  same-ways short true e true f true g = granted short f g (offer-refusal e f g)
+  same-ways : Fit 512 hs → (a : Bool) → right ≡ a → (b : Bool) → fits ≡ b
+      → leavesOf (cond a (cond (not b) (refusedWith 10) (granting rest)) (refusedWith 7)) ≡ stepOn firstEight (offer hs) G
+  same-ways short false e b f = halted-tie G s (offer hs) 7 refl refl (offer-refusal e f)
+  same-ways short true e false f = halted-tie G s (offer hs) 10 refl refl (offer-refusal e f)
+  same-ways short true e true f = granted short e f (offer-refusal e f)
 
-pub offer-tie : (G : Given) (s : Sound G) (hs : List ℕ) → Fit 512 hs → (concernedCount : ℕ)
+pub offer-tie : (G : Given) (s : Sound G) (timely : entry (G .numbers .state) 3 ≡ true) (hs : List ℕ) → Fit 512 hs → (concernedCount : ℕ)
     → concernedCount ≡ count (concerned firstEight (tableOf G) (sessionOf firstEight G .ledger))
     → let x = offerTurn (G .numbers) (tableOf G) (hashesOf (take (64 * G .numbers .demanded) (G .records))) (take (G .numbers .inquired) (G .inquired)) hs concernedCount (G .records) (G .marks) (G .out) in
     left (x .answer) (x .stored .records) (x .stored .marks) (G .inquired) (G .columns) (G .ours) (G .theirs) (x .out) ≡ stepOn firstEight (offer hs) G
-offer-tie G s hs short n is =
-    ap₂ (λ (K I : List ℕ). leavesOf G s hs (offerTurn (G .numbers) (tableOf G) K I hs n (G .records) (G .marks) (G .out))) (sym (given-demanded G s)) (sym (given-inquired G s))
-    ∙ ap (leavesOf G s hs) (turn-is G s hs n is)
-    ∙ same-ways G s hs short (entry (G .numbers .state) 3) refl (right G s hs) refl (fits G s hs) refl
+offer-tie G s timely hs short n is =
+    ap₂ (λ (K I : List ℕ). leavesOf G s timely hs (offerTurn (G .numbers) (tableOf G) K I hs n (G .records) (G .marks) (G .out)))
+    (sym (given-demanded G s)) (sym (given-inquired G s))
+    ∙ ap (leavesOf G s timely hs) (turn-is G s timely hs n is (right G s timely hs) refl)
+    ∙ same-ways G s timely hs short (right G s timely hs) refl (fits G s timely hs) refl

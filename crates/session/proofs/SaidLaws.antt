@@ -11,7 +11,6 @@ use lib.Seq.{take-all}
 use Rattle.bucket.specs.Digits.{joined, groups, spare, unpacked}
 use Rattle.bucket.specs.Lists.{part}
 use Rattle.bucket.proofs.DigitLaws.{groups-below}
-use Rattle.bucket.proofs.OverLaws.{part-length}
 use Rattle.message.specs.declared.kinds.Message.{Message}
 use Rattle.message.specs.declared.kinds.Message.the-variants.{Inquiry, Offer, Demand, Done, Malformed}
 use Rattle.message.specs.Layout.{inquiry, offer, demand, done}
@@ -71,9 +70,6 @@ module _ (bs : List ℕ) where
   module _ (e : parse bs ≡ Done) where
     pub done-room : 68 ≤ length bs
     done-room = let l = shape bs e in omega arith
-
-    pub done-long : length (part 4 64 bs) ≡ 64
-    done-long = part-length 4 bs 64 (omega (arith, done-room))
 
     pub done-said : done (joined 8 (part 4 64 bs)) ≡ content Done bs
     unfolding content

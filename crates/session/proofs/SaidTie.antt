@@ -1,7 +1,8 @@
 -- The ties of the two slices, of what a message's bytes say. Assumes nothing.
-use mathlib.Core.Path.{_≡_, sym, ap, subst}
+use mathlib.Core.Path.{_≡_, sym, ap, subst, _∙_}
 use mathlib.Core.List.{List}
 use Prim.Native.Nat.{ℕ, _+_, _*_}
+use Rattle.bucket.specs.Columns.{Columns}
 use Rattle.bucket.specs.Digits.{unpacked}
 use Rattle.bucket.specs.Lists.{part}
 use Rattle.bucket.specs.Packing.{countersAt}
@@ -12,8 +13,9 @@ use Rattle.message.specs.Laying.{isSlice}
 use Rattle.message.specs.Layout.{Good}
 use Rattle.message.specs.Reading.{content}
 use Rattle.message.specs.Walking.{exactlyOne}
+use Rattle.ledger.specs.declared.numbers.Answer.{Answer}
 use Rattle.ledger.specs.Calls.{Given, left, stepSaid}
-use Rattle.session.specs.Turns.{sliceTurn, lastTurn}
+use Rattle.session.specs.Turns.{SliceTurn, sliceTurn, sliceTurn′, LastTurn, lastTurn, lastTurn′, untouched}
 use Rattle.ledger.proofs.Sound.{Sound}
 use Rattle.session.proofs.LastGranted.{last-is-last, other-not-last, slice-good}
 use Rattle.session.proofs.SliceTie.{slice-tie}
@@ -29,23 +31,26 @@ module _ (G : Given) (s : Sound G) (size offset salt width n : ℕ) where
   abbrev counts : List ℕ
   counts = countersAt width n (16 + 12 * n) (G .message)
 
-  pub slice-said : exactlyOne (G .message) ≡ Ibf size offset salt width n
-      → let x = sliceTurn (G .numbers) (content (exactlyOne (G .message)) (G .message)) size offset salt width (G .columns) in
-      left (x .answer) (G .records) (G .marks) (G .inquired) (x .columns) (G .ours) (G .theirs) (G .out) ≡ stepSaid firstEight (exactlyOne (G .message)) G
+  pub slice-said : {r : Answer} {cols : Columns} → exactlyOne (G .message) ≡ Ibf size offset salt width n
+      → sliceTurn′ r cols ≡ sliceTurn (G .numbers) (content (exactlyOne (G .message)) (G .message)) size offset salt width (G .columns)
+      → left r (G .records) (G .marks) (G .inquired) cols (G .ours) (G .theirs) (G .out) ≡ stepSaid firstEight (exactlyOne (G .message)) G
   unfolding content stepSaid
-  slice-said e =
-      subst
+  slice-said e is =
+      ap (λ (x : SliceTurn). left (x .answer) (G .records) (G .marks) (G .inquired) (x .columns) (G .ours) (G .theirs) (G .out)) is
+      ∙ subst
       (λ (m : Message).
       let x = sliceTurn (G .numbers) (content m (G .message)) size offset salt width (G .columns) in
       left (x .answer) (G .records) (G .marks) (G .inquired) (x .columns) (G .ours) (G .theirs) (G .out) ≡ stepSaid firstEight m G)
       (sym e) (slice-tie G s size offset salt width ids hashes counts (other-not-last (G .message) size offset salt width n e))
 
-  pub last-said : exactlyOne (G .message) ≡ IbfLast size offset salt width n
-      → let x = lastTurn (G .numbers) (G .table) (content (exactlyOne (G .message)) (G .message)) size offset salt width (G .columns) (G .ours) (G .theirs) (G .marks) (G .inquired) (G .out) in
-      left (x .answer) (G .records) (x .marks) (x .inquired) (x .read .columns) (x .read .ours) (x .read .theirs) (x .out) ≡ stepSaid firstEight (exactlyOne (G .message)) G
+  pub last-said : {r : Answer} {M′ I′ o th out′ : List ℕ} {cols : Columns} → exactlyOne (G .message) ≡ IbfLast size offset salt width n
+      → lastTurn′ r M′ I′ (untouched cols o th) out′
+      ≡ lastTurn (G .numbers) (G .table) (content (exactlyOne (G .message)) (G .message)) size offset salt width (G .columns) (G .ours) (G .theirs) (G .marks) (G .inquired) (G .out)
+      → left r (G .records) M′ I′ cols o th out′ ≡ stepSaid firstEight (exactlyOne (G .message)) G
   unfolding content stepSaid
-  last-said e =
-      subst
+  last-said e is =
+      ap (λ (x : LastTurn). left (x .answer) (G .records) (x .marks) (x .inquired) (x .read .columns) (x .read .ours) (x .read .theirs) (x .out)) is
+      ∙ subst
       (λ (m : Message).
       let x = lastTurn (G .numbers) (G .table) (content m (G .message)) size offset salt width (G .columns) (G .ours) (G .theirs) (G .marks) (G .inquired) (G .out) in
       left (x .answer) (G .records) (x .marks) (x .inquired) (x .read .columns) (x .read .ours) (x .read .theirs) (x .out) ≡ stepSaid firstEight m G)

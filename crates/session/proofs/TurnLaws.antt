@@ -18,14 +18,14 @@ use Rattle.bucket.specs.Digits.{packed}
 use Rattle.bucket.specs.Lists.{over, part}
 use Rattle.bucket.proofs.OverLaws.{over-nil}
 use Rattle.filter.specs.Table.{firstEight}
-use Rattle.filter.proofs.SetLaws.{asc-of}
+use Rattle.filter.proofs.SetLaws.{clash, asc-of}
 use Rattle.filter.proofs.TableLaws.{ids-ascending}
 use Rattle.message.specs.Layout.{Content}
 use Rattle.message.specs.Writing.{layouts}
 use Rattle.message.proofs.WholeLaws.{packed-nil}
 use Rattle.ledger.specs.declared.numbers.Numbers.{Numbers}
 use Rattle.ledger.specs.declared.numbers.Answer.{Answer}
-use Rattle.ledger.specs.Grid.{FINISHED, ABORTED}
+use Rattle.ledger.specs.Grid.{FINISHED, ABORTED, isEnded}
 use Rattle.ledger.specs.Session.{Ledger, Session, Outcome, Change, isSlice, changed, acts, clears, stopped, checksum, refusal, change, act}
 use Rattle.ledger.specs.Memory.{bit, decode}
 use Rattle.ledger.specs.Calls.{Given, Left, left, numbered, answered, inState, numbersOf, memoryOf, tableOf, hashGiven, sessionOf, ended, went, stepOn}
@@ -33,6 +33,7 @@ use Rattle.ledger.proofs.CallLaws.{act-change, refused-halted, step-acts, step-
 use Rattle.ledger.proofs.LaidLaws.{laidMarks, laid-front, laid-back}
 use Rattle.session.specs.Moves.{checkOf}
 use Rattle.form.specs.Answers.{aborted}
+use Rattle.form.specs.Answers as form
 use Rattle.session.proofs.CheckLaws.{check-decoded}
 use Rattle.session.proofs.StoreLaws.{knownIn}
 use Rattle.session.proofs.PlaceTie.{Ordered}
@@ -115,7 +116,7 @@ module _ (G : Given) (s : Sound G) where
 
   pub stops : stopped (sessionIn G .state) ≡ ABORTED
   unfolding sessionOf
-  stops = ap (λ (b : Bool). cond b FINISHED ABORTED) (ne-eqb (G .numbers .state) FINISHED (λ e. absurd (omega (arith, s .state))))
+  stops = ap (λ (b : Bool). cond b FINISHED ABORTED) (ne-eqb (G .numbers .state) FINISHED (λ e. clash (ap isEnded e) (s .going)))
 
 -- 9 and 10 clear what a slice was read into; every other refusal changes the state alone
 pub halted-tie : (G : Given) (s : Sound G) (c : Content) (n : ℕ) → acts n ≡ false → clears n && isSlice c ≡ false → refusalIn G c ≡ n
@@ -139,12 +140,7 @@ pub record Laid (G : Given) (ch : Change) (done demanded : ℕ) (R M O : List �
 
 module _ (G : Given) (s : Sound G) (c : Content) (other : isSlice c ≡ false) where
   pub change-tie : (ch : Change) (done demanded : ℕ) (R M O : List ℕ) → Laid G ch done demanded R M O → refusalIn G c ≡ 0 → changeIn G c ≡ ch
-      → let N = G .numbers in
-      leaves G
-      (answered 0 (length (layouts (ch .sent))) (length (ch .due))
-      (numbered (ch .state) 0 (N .size) (N .salt) (N .width) (N .swaps) done demanded (N .inquired)))
-      R M O
-      ≡ stepOn firstEight c G
+      → leaves G (form.changed (G .numbers) (ch .state) done demanded (length (layouts (ch .sent))) (length (ch .due))) R M O ≡ stepOn firstEight c G
   unfolding went numbersOf sessionOf
   change-tie ch done demanded R M O l none is =
       let N = G .numbers in

@@ -3,3 +3,4 @@ pub mod Moves
 pub mod Turns
 pub mod Ready
 pub mod Judged
+pub mod Steps

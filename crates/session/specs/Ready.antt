@@ -2,7 +2,7 @@
 use mathlib.Core.Path.{_≡_}
 use mathlib.Core.Bool.{Bool, true, cond}
 use mathlib.Core.List.{List}
-use Prim.Native.Nat.{ℕ, _+_, _-_, _*_, _≤_, _<_}
+use Prim.Native.Nat.{ℕ, _+_, _-_, _*_, _≤_}
 use lib.Bits.{bitXor}
 use lib.Dec.{eqb, ltb}
 use lib.ListN.{length}
@@ -88,7 +88,6 @@ pub record Whole (table message : List ℕ) (size salt : ℕ) (c : Columns) (our
 pub record Reads (N : Numbers) (table message : List ℕ) (size offset salt width : ℕ) (c : Columns) (ours theirs marks inquired out : List ℕ) : Type 0 where
   pub lays : Lays message c
   pub table-good : isTable firstEight table ≡ true
-  pub state : N .state < 8
   pub range : inRange size salt ≡ true
   pub granted : isPlaced N size offset salt width ≡ true
       → readRefusal firstEight size salt table (laid (content (exactlyOne message) message) c) ours theirs ≡ None

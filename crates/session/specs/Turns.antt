@@ -1,6 +1,6 @@
--- What each message's function computes, in the code's own shape: cited by private contracts alone. Nothing here is to be believed: laws
--- (proofs/*Tie) show that each turn is what `Calls` says of its message.
-use mathlib.Core.Bool.{Bool, not, _&&_, _||_, cond}
+-- What the functions of slices, INQUIRY, OFFER and DEMAND compute, in the code's own shape: cited by private contracts alone. Nothing here is to be
+-- believed: laws (proofs/*Tie) show that each turn is what `Calls` says of its message. INQUIRY, OFFER and DEMAND are asked once the grid has admitted them.
+use mathlib.Core.Bool.{_||_, cond}
 use mathlib.Core.List.{List, [], _∷_, _++_, map, foldr}
 use Prim.Native.Nat.{ℕ, _+_}
 use lib.Bits.{bitXor}
@@ -8,10 +8,10 @@ use lib.Dec.{eqb, ltb, leb}
 use lib.ListN.{length, getD, set, take}
 use Rattle.bucket.specs.Bucket.{𝟎}
 use Rattle.bucket.specs.Columns.{Columns}
-use Rattle.bucket.specs.Digits.{joined, packed}
-use Rattle.bucket.specs.Lists.{over, part}
+use Rattle.bucket.specs.Digits.{packed}
+use Rattle.bucket.specs.Lists.{over}
 use Rattle.filter.specs.declared.answers.ReadAnswer.{ReadAnswer}
-use Rattle.filter.specs.declared.answers.Refusal.the-variants.{Malformed, OutOfTurn, Breach, Checksum, Swaps, Limit}
+use Rattle.filter.specs.declared.answers.Refusal.the-variants.{Malformed, OutOfTurn, Breach, Swaps, Limit}
 use Rattle.filter.specs.Answers.{refusalNumber}
 use Rattle.filter.specs.Calls.{Read, unread, filled, listedInto}
 use Rattle.filter.specs.Table.{firstEight, hashesOf, idsOf, position}
@@ -22,13 +22,13 @@ use Rattle.message.specs.Walking.{exactlyOne}
 use Rattle.message.specs.Writing.{layouts, inquiriesOf, offersOf, demandsOf}
 use Rattle.ledger.specs.declared.numbers.Numbers.{Numbers}
 use Rattle.ledger.specs.declared.numbers.Answer.{Answer}
-use Rattle.ledger.specs.Grid.{ACTIVE, PASSIVE, CLOSING, WAITING, FINISHED, entry}
+use Rattle.ledger.specs.Grid.{ACTIVE, PASSIVE}
 use Rattle.ledger.specs.Session.{nextSalt, nextSize, ownFilter, isComplete, oursIn, theirsIn, clears, readingAt}
 use Rattle.ledger.specs.Calls.{numbered, answered}
-use Rattle.form.specs.Answers.{aborted, onward, withDemanded, closed, slicedNumbers, openedNumbers, admitsSlice, isPlaced}
-use Rattle.session.specs.Moves.{placeOfHash, isUnmetAt, askAll, serveAll, newAll, extra, Stored, stored, storeAll, insertedAll, checkOf}
+use Rattle.form.specs.Answers.{aborted, changed, slicedNumbers, openedNumbers, admitsSlice, isPlaced}
+use Rattle.session.specs.Moves.{askAll, serveAll, newAll, extra, Stored, stored, storeAll, insertedAll}
 
--- ---- INQUIRY, DEMAND, ELEMENT: marks change, and something is written
+-- ---- INQUIRY, DEMAND: marks change, and something is written
 
 pub record MarkTurn : Type 0 where
   pub answer : Answer
@@ -43,78 +43,18 @@ unfoldable pub inquiryTurn : Numbers → List ℕ → List ℕ → ℕ → List 
 inquiryTurn N t K salt xs M out =
     let w = askAll firstEight t K xs (take 8192 M) in
     let cs = offersOf (w .hashes) in
-    cond (entry (N .state) 2)
-    (cond (eqb salt (N .salt))
+    cond (eqb salt (N .salt))
     (cond (w .fine)
-    (markTurn (answered 0 (length (layouts cs)) 0 (onward N)) (over 0 (w .marks) M) (over 0 (layouts cs) out))
+    (markTurn (changed N (N .state) (N .done) (N .demanded) (length (layouts cs)) 0) (over 0 (w .marks) M) (over 0 (layouts cs) out))
     (markTurn (aborted (refusalNumber Breach) N) M out))
-    (markTurn (aborted (refusalNumber Breach) N) M out))
-    (markTurn (aborted (refusalNumber OutOfTurn) N) M out)
+    (markTurn (aborted (refusalNumber Breach) N) M out)
 
 unfoldable pub demandTurn : Numbers → List ℕ → List ℕ → List ℕ → List ℕ → List ℕ → MarkTurn
 demandTurn N t K hs M out =
     let w = serveAll firstEight t K hs (take 8192 M) in
-    cond (entry (N .state) 4)
-    (cond (w .fine)
-    (markTurn (answered 0 0 (length hs) (onward N)) (over 0 (w .marks) M) (over 0 (packed 512 hs) out))
-    (markTurn (aborted (refusalNumber Breach) N) M out))
-    (markTurn (aborted (refusalNumber OutOfTurn) N) M out)
-
--- far is the far checksum, h the element's hash
-abbrev pub isClosing : Numbers → ℕ → Bool
-isClosing N unmet = (eqb (N .state) CLOSING || eqb (N .state) WAITING) && eqb unmet 1
-
-abbrev pub sendsDone : Numbers → ℕ → ℕ → Bool
-sendsDone N came unmet = (eqb (N .state) ACTIVE && eqb (came + 1) (N .inquired)) || (eqb (N .state) WAITING && eqb unmet 1)
-
-abbrev pub withElement : Numbers → (closing sends : Bool) → Numbers
-withElement N closing sends =
-    numbered (cond closing FINISHED (N .state)) 0 (N .size) (N .salt) (N .width) (N .swaps) (cond sends 1 (N .done)) (N .demanded) (N .inquired)
-
--- a demand met at the place p
-unfoldable pub gainTurn : Numbers → List ℕ → List ℕ → ℕ → ℕ → (closing sends : Bool) → ℕ → List ℕ → List ℕ → MarkTurn
-gainTurn N t K far h closing sends p M out =
-    let check = bitXor (checkOf t K (part 4096 (length K) M)) h in
-    let cs = cond sends (done check ∷ []) [] in
-    cond (closing && not (eqb far check))
-    (markTurn (aborted (refusalNumber Checksum) N) M out)
-    (markTurn (answered 0 (length (layouts cs)) 0 (withElement N closing sends)) (set M p 8) (over 0 (layouts cs) out))
-
-unfoldable pub elementTurn : Numbers → List ℕ → List ℕ → ℕ → ℕ → ℕ → ℕ → List ℕ → List ℕ → MarkTurn
-elementTurn N t K far h came unmet M out =
-    let p = placeOfHash firstEight t K h in
-    cond (entry (N .state) 5)
-    (cond (isUnmetAt M p)
-    (gainTurn N t K far h (isClosing N unmet) (sendsDone N came unmet) p M out)
-    (markTurn (aborted (refusalNumber Breach) N) M out))
-    (markTurn (aborted (refusalNumber OutOfTurn) N) M out)
-
--- ---- DONE: the far checksum may be kept
-
-pub record EndTurn : Type 0 where
-  pub answer : Answer
-  pub records : List ℕ
-  pub out : List ℕ
-
-abbrev pub endTurn : Answer → List ℕ → List ℕ → EndTurn
-endTurn a R out = record { answer = a; records = R; out = out }
-
--- far is the 64 bytes of the checksum in the message
-unfoldable pub doneTurn : Numbers → List ℕ → List ℕ → List ℕ → List ℕ → ℕ → List ℕ → List ℕ → EndTurn
-doneTurn N t K M far unmet R out =
-    let check = checkOf t K (part 4096 (length K) M) in
-    let cs = done check ∷ [] in
-    cond (entry (N .state) 6)
-    (cond (eqb (N .state) ACTIVE && not (eqb (N .done) 1))
-    (endTurn (aborted (refusalNumber OutOfTurn) N) R out)
-    (cond (eqb unmet 0)
-    (cond (eqb (joined 8 far) check)
-    (cond (eqb (N .state) PASSIVE)
-    (endTurn (answered 0 (length (layouts cs)) 0 (closed N FINISHED 1)) R (over 0 (layouts cs) out))
-    (endTurn (answered 0 0 0 (closed N FINISHED (N .done))) R out))
-    (endTurn (aborted (refusalNumber Checksum) N) R out))
-    (endTurn (answered 0 0 0 (closed N (cond (eqb (N .state) ACTIVE) CLOSING WAITING) (N .done))) (over 262144 far R) out)))
-    (endTurn (aborted (refusalNumber OutOfTurn) N) R out)
+    cond (w .fine)
+    (markTurn (changed N (N .state) (N .done) (N .demanded) 0 (length hs)) (over 0 (w .marks) M) (over 0 (packed 512 hs) out))
+    (markTurn (aborted (refusalNumber Breach) N) M out)
 
 -- ---- OFFER: new hashes are demanded
 
@@ -133,13 +73,11 @@ offerTurn N t K I hs concerned R M out =
     let n = N .demanded in
     let m = length (w .hashes) in
     let cs = demandsOf (w .hashes) in
-    cond (entry (N .state) 3)
-    (cond (w .fine)
+    cond (w .fine)
     (cond (ltb 4096 (concerned + extra firstEight I (w .hashes)) || ltb 4096 (n + m))
     (offerTurn′ (aborted (refusalNumber Limit) N) (stored R M) out)
-    (offerTurn′ (answered 0 (length (layouts cs)) 0 (withDemanded N (n + m))) (storeAll n (w .hashes) (stored R M)) (over 0 (layouts cs) out)))
-    (offerTurn′ (aborted (refusalNumber Breach) N) (stored R M) out))
-    (offerTurn′ (aborted (refusalNumber OutOfTurn) N) (stored R M) out)
+    (offerTurn′ (changed N (N .state) (N .done) (n + m) (length (layouts cs)) 0) (storeAll n (w .hashes) (stored R M)) (over 0 (layouts cs) out)))
+    (offerTurn′ (aborted (refusalNumber Breach) N) (stored R M) out)
 
 -- ---- slices
 

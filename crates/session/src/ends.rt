@@ -1,18 +1,13 @@
-// ELEMENT and DONE: what a session ends with.
+// ELEMENT and DONE: what a session ends with. Both are asked once the grid has admitted the message.
 ghost use mathlib.Core.Path.{_≡_};
-ghost use mathlib.Core.Bool.{true, _||_};
-ghost use Prim.Native.Nat.{_+_, _*_, _≤_, _<_};
+ghost use Prim.Native.Nat.{_*_, _≤_, _<_};
 ghost use lib.ListN.{length, take};
-ghost use Rattle.bucket.specs.Digits.{joined};
-ghost use Rattle.bucket.specs.Lists.{part};
-ghost use Rattle.filter.specs.Table.{hashesOf};
 ghost use Rattle.session.specs.Ready.{Kept};
-ghost use Rattle.session.specs.Turns.{markTurn, gainTurn, elementTurn, endTurn, doneTurn};
+ghost use Rattle.session.specs.Steps.{DoneSteps, ElementSteps, LastSteps};
 use ledger::numbers::ACTIVE;
 use ledger::numbers::Answer;
 use ledger::numbers::BREACH;
 use ledger::numbers::CHECKSUM;
-use ledger::numbers::CLOSING;
 use ledger::numbers::FINISHED;
 use ledger::numbers::Numbers;
 use ledger::numbers::OUT_OF_TURN;
@@ -32,31 +27,25 @@ pub(crate) fn on_element(
     came: usize,
     unmet: usize,
 ) -> Answer
-    requires { ⌜ Kept (now table) (take (64 * numbers .demanded) (now records)) (now marks) × (262208 ≤ length (now records)) × (numbers .demanded ≤ 4096) × (numbers .state < 8)
+    requires { ⌜ Kept (now table) (take (64 * numbers .demanded) (now records)) (now marks) × (262208 ≤ length (now records)) × (numbers .demanded ≤ 4096)
         × (64 ≤ length (now hash)) × (295008 ≤ length (now out)) × (came ≤ 8192) ⌝ }
-    ensures { λ r. ⌜ markTurn r (now (marks .exit)) (now (out .exit))
-        ≡ elementTurn numbers (hashesOf (now (table .entry))) (hashesOf (take (64 * numbers .demanded) (now (records .entry)))) (joined 8 (part 262144 64 (now (records .entry)))) (joined 8 (take 64 (now (hash .entry)))) came unmet (now (marks .entry)) (now (out .entry)) ⌝ }
+    ensures { λ r. ⌜ ElementSteps numbers (now (table .entry)) (now (records .entry)) (now (marks .entry)) (now (hash .entry)) (now (out .entry)) came unmet r (now (marks .exit)) (now (out .exit)) ⌝ }
 {
-    if !form::grid::admits(numbers.state, form::grid::ELEMENT) {
-        return form::numbers::aborted(OUT_OF_TURN, numbers);
-    }
     let e = 64 * numbers.demanded as usize;
     let p = crate::places::unmet_place(table, &records[..e], marks, hash);
     if crate::places::NOWHERE <= p {
         return form::numbers::aborted(BREACH, numbers);
     }
-    let state = numbers.state;
-    let closing = ((state == CLOSING) | (state == WAITING)) & (unmet == 1);
-    let sends = ((state == ACTIVE) & (came + 1 == numbers.inquired as usize))
-        | ((state == WAITING) & (unmet == 1));
-    if closing | sends {
-        return last_element(numbers, table, records, marks, hash, out, p, closing, sends);
+    let last = (numbers.state == WAITING) & (unmet == 1);
+    let all = (numbers.state == ACTIVE) & (came + 1 == numbers.inquired as usize);
+    if all | last {
+        return last_element(numbers, table, records, marks, hash, out, p, last);
     }
     marks[p] = 8;
-    form::numbers::answered(0, 0, form::numbers::onward(numbers))
+    form::numbers::changed(numbers, numbers.state, numbers.done, numbers.demanded, 0, 0)
 }
 
-// An element that the session closes with, or that DONE is sent after: only here the checksum is made.
+// An element after which our DONE goes: only here the checksum is made. The last one of all is compared.
 fn last_element(
     numbers: Numbers,
     table: &[u8],
@@ -65,33 +54,22 @@ fn last_element(
     hash: &[u8],
     out: &mut [u8],
     p: usize,
-    closing: bool,
-    sends: bool,
+    last: bool,
 ) -> Answer
     requires { ⌜ Kept (now table) (take (64 * numbers .demanded) (now records)) (now marks) × (262208 ≤ length (now records)) × (numbers .demanded ≤ 4096)
-        × (64 ≤ length (now hash)) × (295008 ≤ length (now out)) × (p < 8192) × (closing || sends ≡ true) ⌝ }
-    ensures { λ r. ⌜ markTurn r (now (marks .exit)) (now (out .exit))
-        ≡ gainTurn numbers (hashesOf (now (table .entry))) (hashesOf (take (64 * numbers .demanded) (now (records .entry)))) (joined 8 (part 262144 64 (now (records .entry)))) (joined 8 (take 64 (now (hash .entry)))) closing sends p (now (marks .entry)) (now (out .entry)) ⌝ }
+        × (64 ≤ length (now hash)) × (295008 ≤ length (now out)) × (p < 8192) ⌝ }
+    ensures { λ r. ⌜ LastSteps numbers (now (table .entry)) (now (records .entry)) (now (marks .entry)) (now (hash .entry)) (now (out .entry)) p last r (now (marks .exit)) (now (out .exit)) ⌝ }
 {
     let e = 64 * numbers.demanded as usize;
     let mut check = crate::checking::checksum(table, &records[..e], marks);
     crate::checking::xor_into(&mut check, hash, 0);
-    if closing & !crate::places::same_hash(records, FAR, &check, 0) {
+    if last & !crate::places::same_hash(records, FAR, &check, 0) {
         return form::numbers::aborted(CHECKSUM, numbers);
     }
     marks[p] = 8;
-    if !sends {
-        return form::numbers::answered(
-            0,
-            0,
-            form::numbers::closed(numbers, FINISHED, numbers.done),
-        );
-    }
     let sent = crate::sending::send_done(&check, out, 0);
-    if closing {
-        return form::numbers::answered(sent, 0, form::numbers::closed(numbers, FINISHED, 1));
-    }
-    form::numbers::answered(sent, 0, form::numbers::closed(numbers, numbers.state, 1))
+    let next = if last { FINISHED } else { numbers.state };
+    form::numbers::changed(numbers, next, 1, numbers.demanded, sent, 0)
 }
 
 pub(crate) fn on_done(
@@ -103,31 +81,26 @@ pub(crate) fn on_done(
     out: &mut [u8],
     unmet: usize,
 ) -> Answer
-    requires { ⌜ Kept (now table) (take (64 * numbers .demanded) (now records)) (now marks) × (262208 ≤ length (now records)) × (numbers .demanded ≤ 4096) × (numbers .state < 8)
+    requires { ⌜ Kept (now table) (take (64 * numbers .demanded) (now records)) (now marks) × (262208 ≤ length (now records)) × (numbers .demanded ≤ 4096)
         × (68 ≤ length (now message)) × (295008 ≤ length (now out)) ⌝ }
-    ensures { λ r. ⌜ endTurn r (now (records .exit)) (now (out .exit))
-        ≡ doneTurn numbers (hashesOf (now (table .entry))) (hashesOf (take (64 * numbers .demanded) (now (records .entry)))) (now (marks .entry)) (part 4 64 (now (message .entry))) unmet (now (records .entry)) (now (out .entry)) ⌝ }
+    ensures { λ r. ⌜ DoneSteps numbers (now (table .entry)) (now (records .entry)) (now (marks .entry)) (now (message .entry)) (now (out .entry)) unmet r (now (records .exit)) (now (out .exit)) ⌝ }
 {
-    let state = numbers.state;
-    if !form::grid::admits(state, form::grid::DONE) {
+    if (numbers.state == ACTIVE) & !(numbers.done == 1) {
         return form::numbers::aborted(OUT_OF_TURN, numbers);
     }
-    if (state == ACTIVE) & !(numbers.done == 1) {
-        return form::numbers::aborted(OUT_OF_TURN, numbers);
-    }
-    if unmet != 0 {
+    let d = numbers.demanded;
+    if (numbers.state == PASSIVE) & !(unmet == 0) {
         crate::copying::copy(message, 4, 64, records, FAR);
-        let next = if state == ACTIVE { CLOSING } else { WAITING };
-        return form::numbers::answered(0, 0, form::numbers::closed(numbers, next, numbers.done));
+        return form::numbers::changed(numbers, WAITING, numbers.done, d, 0, 0);
     }
-    let e = 64 * numbers.demanded as usize;
+    let e = 64 * d as usize;
     let check = crate::checking::checksum(table, &records[..e], marks);
     if !crate::places::same_hash(message, 4, &check, 0) {
         return form::numbers::aborted(CHECKSUM, numbers);
     }
-    if state == PASSIVE {
+    if numbers.state == PASSIVE {
         let sent = crate::sending::send_done(&check, out, 0);
-        return form::numbers::answered(sent, 0, form::numbers::closed(numbers, FINISHED, 1));
+        return form::numbers::changed(numbers, FINISHED, 1, d, sent, 0);
     }
-    form::numbers::answered(0, 0, form::numbers::closed(numbers, FINISHED, numbers.done))
+    form::numbers::changed(numbers, FINISHED, numbers.done, d, 0, 0)
 }

@@ -49,7 +49,7 @@ pub(crate) fn on_slice(
     salt: u32,
     width: u32,
 ) -> Answer
-    requires { ⌜ (numbers .state < 8) × Lays (now message) (columns (now ids) (now hashes) (now counts)) ⌝ }
+    requires { ⌜ Lays (now message) (columns (now ids) (now hashes) (now counts)) ⌝ }
     ensures { λ r. ⌜ sliceTurn′ r (columns (now (ids .exit)) (now (hashes .exit)) (now (counts .exit)))
         ≡ sliceTurn numbers (content (exactlyOne (now (message .entry))) (now (message .entry))) size offset salt width (columns (now (ids .entry)) (now (hashes .entry)) (now (counts .entry))) ⌝ }
 {

@@ -1,4 +1,4 @@
-// INQUIRY, OFFER and DEMAND: each judges its whole message first, and then writes.
+// INQUIRY, OFFER and DEMAND: each is asked once the grid has admitted it, judges its whole message first, and then writes.
 ghost use mathlib.Core.Path.{_≡_};
 ghost use Prim.Native.Nat.{_+_, _*_, _≤_, _<_};
 ghost use lib.ListN.{length, take};
@@ -13,7 +13,6 @@ use ledger::numbers::Answer;
 use ledger::numbers::BREACH;
 use ledger::numbers::LIMIT;
 use ledger::numbers::Numbers;
-use ledger::numbers::OUT_OF_TURN;
 
 pub(crate) fn on_inquiry(
     numbers: Numbers,
@@ -25,14 +24,11 @@ pub(crate) fn on_inquiry(
     salt: u32,
     n: usize,
 ) -> Answer
-    requires { ⌜ Kept (now table) (take (64 * numbers .demanded) (now records)) (now marks) × (64 * numbers .demanded ≤ length (now records)) × (numbers .demanded ≤ 4096) × (numbers .state < 8)
+    requires { ⌜ Kept (now table) (take (64 * numbers .demanded) (now records)) (now marks) × (64 * numbers .demanded ≤ length (now records)) × (numbers .demanded ≤ 4096)
         × (8 + 8 * n ≤ length (now message)) × (295008 ≤ length (now out)) ⌝ }
     ensures { λ r. ⌜ markTurn r (now (marks .exit)) (now (out .exit))
         ≡ inquiryTurn numbers (hashesOf (now (table .entry))) (hashesOf (take (64 * numbers .demanded) (now (records .entry)))) salt (unpacked 64 n (part 8 (8 * n) (now (message .entry)))) (now (marks .entry)) (now (out .entry)) ⌝ }
 {
-    if !form::grid::admits(numbers.state, form::grid::INQUIRY) {
-        return form::numbers::aborted(OUT_OF_TURN, numbers);
-    }
     if salt != numbers.salt {
         return form::numbers::aborted(BREACH, numbers);
     }
@@ -47,7 +43,14 @@ pub(crate) fn on_inquiry(
     crate::copying::copy(&work, 0, 8192, marks, 0);
     let to = 64 * g.count;
     let sent = crate::sending::send_offers(&hashes[..to], out, 0);
-    form::numbers::answered(sent, 0, form::numbers::onward(numbers))
+    form::numbers::changed(
+        numbers,
+        numbers.state,
+        numbers.done,
+        numbers.demanded,
+        sent,
+        0,
+    )
 }
 
 pub(crate) fn on_demand(
@@ -59,14 +62,11 @@ pub(crate) fn on_demand(
     out: &mut [u8],
     n: usize,
 ) -> Answer
-    requires { ⌜ Kept (now table) (take (64 * numbers .demanded) (now records)) (now marks) × (64 * numbers .demanded ≤ length (now records)) × (numbers .demanded ≤ 4096) × (numbers .state < 8)
+    requires { ⌜ Kept (now table) (take (64 * numbers .demanded) (now records)) (now marks) × (64 * numbers .demanded ≤ length (now records)) × (numbers .demanded ≤ 4096)
         × (4 + 64 * n ≤ length (now message)) × (n ≤ 1023) × (295008 ≤ length (now out)) ⌝ }
     ensures { λ r. ⌜ markTurn r (now (marks .exit)) (now (out .exit))
         ≡ demandTurn numbers (hashesOf (now (table .entry))) (hashesOf (take (64 * numbers .demanded) (now (records .entry)))) (unpacked 512 n (part 4 (64 * n) (now (message .entry)))) (now (marks .entry)) (now (out .entry)) ⌝ }
 {
-    if !form::grid::admits(numbers.state, form::grid::DEMAND) {
-        return form::numbers::aborted(OUT_OF_TURN, numbers);
-    }
     let e = 64 * numbers.demanded as usize;
     let mut work = [0u8; 8192];
     crate::copying::copy(marks, 0, 8192, &mut work, 0);
@@ -75,7 +75,7 @@ pub(crate) fn on_demand(
     }
     crate::copying::copy(&work, 0, 8192, marks, 0);
     crate::copying::copy(message, 4, 64 * n, out, 0);
-    form::numbers::answered(0, n, form::numbers::onward(numbers))
+    form::numbers::changed(numbers, numbers.state, numbers.done, numbers.demanded, 0, n)
 }
 
 pub(crate) fn on_offer(
@@ -89,15 +89,12 @@ pub(crate) fn on_offer(
     n: usize,
     concerned: usize,
 ) -> Answer
-    requires { ⌜ Kept (now table) (take (64 * numbers .demanded) (now records)) (now marks) × (262144 ≤ length (now records)) × (numbers .demanded ≤ 4096) × (numbers .state < 8)
+    requires { ⌜ Kept (now table) (take (64 * numbers .demanded) (now records)) (now marks) × (262144 ≤ length (now records)) × (numbers .demanded ≤ 4096)
         × (numbers .inquired ≤ length (now inquired)) × (numbers .inquired ≤ 4096) × (concerned ≤ 4096)
         × (4 + 64 * n ≤ length (now message)) × (n ≤ 1023) × (295008 ≤ length (now out)) ⌝ }
     ensures { λ r. ⌜ offerTurn′ r (stored (now (records .exit)) (now (marks .exit))) (now (out .exit))
         ≡ offerTurn numbers (hashesOf (now (table .entry))) (hashesOf (take (64 * numbers .demanded) (now (records .entry)))) (take (numbers .inquired) (now (inquired .entry))) (unpacked 512 n (part 4 (64 * n) (now (message .entry)))) concerned (now (records .entry)) (now (marks .entry)) (now (out .entry)) ⌝ }
 {
-    if !form::grid::admits(numbers.state, form::grid::OFFER) {
-        return form::numbers::aborted(OUT_OF_TURN, numbers);
-    }
     let demanded = numbers.demanded as usize;
     let k = numbers.inquired as usize;
     let e = 64 * demanded;
@@ -126,9 +123,6 @@ pub(crate) fn on_offer(
     crate::offering::store_all(records, marks, demanded, &hashes, m);
     let to = 64 * m;
     let sent = crate::sending::send_demands(&hashes[..to], out, 0);
-    form::numbers::answered(
-        sent,
-        0,
-        form::numbers::with_demanded(numbers, (demanded + m) as u32),
-    )
+    let now = (demanded + m) as u32;
+    form::numbers::changed(numbers, numbers.state, numbers.done, now, sent, 0)
 }

@@ -4,14 +4,13 @@ ghost use Rattle.bucket.specs.Columns.{columns};
 ghost use Rattle.filter.specs.Table.{firstEight};
 ghost use Rattle.message.specs.Walking.{exactlyOne};
 ghost use Rattle.ledger.specs.Calls.{given, left, stepCall};
-ghost use Rattle.session.specs.Judged.{InForm, ledgerTurn, ledgerTurn′};
+ghost use Rattle.session.specs.Judged.{InForm};
+ghost use Rattle.session.specs.Steps.{LedgerSteps, columnOf, screenOf};
 use form::tallying::Tally;
 use ledger::numbers::Answer;
-use ledger::numbers::FORM;
 use ledger::numbers::MALFORMED;
 use ledger::numbers::Numbers;
 use ledger::numbers::OUT_OF_TURN;
-use ledger::numbers::ROOM;
 use message::kinds::Message;
 
 // Takes one message in a state, and answers the next state and what is to be sent. Every slice is lent and comes back; specs/Calls says what each
@@ -35,10 +34,7 @@ pub fn step(
         ≡ stepCall firstEight (given numbers (now (table .entry)) (now (records .entry)) (now (marks .entry)) (now (inquired .entry)) (columns (now (ids .entry)) (now (hashes .entry)) (now (counts .entry))) (now (ours .entry)) (now (theirs .entry)) (now (hash .entry)) (now (message .entry)) (now (out .entry))) ⌝ }
 {
     let tally = form::tallying::judge(numbers, table, records, marks, inquired, counts);
-    if !tally.good {
-        return form::numbers::refused(FORM, numbers);
-    }
-    if !form::rooms::has_room(
+    let roomy = form::rooms::has_room(
         records.len(),
         marks.len(),
         inquired.len(),
@@ -49,11 +45,10 @@ pub fn step(
         theirs.len(),
         hash.len(),
         out.len(),
-    ) {
-        return form::numbers::refused(ROOM, numbers);
-    }
-    if 5 < numbers.state {
-        return form::numbers::refused(OUT_OF_TURN, numbers);
+    );
+    let refusal = form::rooms::early(tally.good, roomy, numbers.state);
+    if refusal != 0 {
+        return form::numbers::refused(refusal, numbers);
     }
     match message::reading::read(message) {
         Message::Ibf {
@@ -125,9 +120,12 @@ fn on_ledger(
     tally: Tally,
 ) -> Answer
     requires { ⌜ InForm numbers (now table) (now records) (now marks) (now inquired) (now hash) (now out) tally × (exactlyOne (now message) ≡ m) ⌝ }
-    ensures { λ r. ⌜ ledgerTurn′ r (now (records .exit)) (now (marks .exit)) (now (out .exit))
-        ≡ ledgerTurn numbers (now (table .entry)) (now (records .entry)) (now (marks .entry)) (now (inquired .entry)) (now (hash .entry)) (now (message .entry)) (now (out .entry)) m tally ⌝ }
+    ensures { λ r. ⌜ LedgerSteps numbers (now (table .entry)) (now (records .entry)) (now (marks .entry)) (now (inquired .entry)) (now (hash .entry)) (now (message .entry)) (now (out .entry)) m tally r (now (records .exit)) (now (marks .exit)) (now (out .exit)) ⌝ }
 {
+    let refusal = screened(numbers.state, m);
+    if refusal != 0 {
+        return form::numbers::aborted(refusal, numbers);
+    }
     match m {
         Message::Inquiry { salt, count } => {
             crate::lists::on_inquiry(numbers, table, records, marks, message, out, salt, count)
@@ -158,6 +156,37 @@ fn on_ledger(
             let unmet = tally.unmet;
             crate::ends::on_done(numbers, table, records, marks, message, out, unmet)
         }
+        // no slice comes here
         _ => form::numbers::aborted(MALFORMED, numbers),
+    }
+}
+
+// The refusal of bytes that are no message, and of a message that the grid does not admit; else 0.
+fn screened(state: u32, m: Message) -> u32
+    ensures { λ r. ⌜ r ≡ screenOf state (columnOf m) ⌝ }
+{
+    let k = column(m);
+    if k == 7 {
+        return MALFORMED;
+    }
+    if !form::grid::admits(state, k) {
+        return OUT_OF_TURN;
+    }
+    0
+}
+
+// The grid's column of a message, behind all columns where the bytes are none.
+fn column(m: Message) -> usize
+    ensures { λ r. ⌜ r ≡ columnOf m ⌝ }
+{
+    match m {
+        Message::Ibf { .. } => form::grid::IBF,
+        Message::IbfLast { .. } => form::grid::LAST,
+        Message::Inquiry { .. } => form::grid::INQUIRY,
+        Message::Offer { .. } => form::grid::OFFER,
+        Message::Demand { .. } => form::grid::DEMAND,
+        Message::Element { .. } => form::grid::ELEMENT,
+        Message::Done => form::grid::DONE,
+        Message::Malformed => 7,
     }
 }

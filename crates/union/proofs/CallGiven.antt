@@ -13,8 +13,7 @@ use mathlib.Core.Logic.{_⊎_, inl, inr}
 use mathlib.Core.List.{List, map}
 use Prim.Native.Nat.{ℕ, _*_, _^_, _≤_, _<_}
 use native.Mathlib.Omega.{arith}
-use lib.Dec.{ltb, leb}
-use borrow.Author.Tests.{ltb-true}
+use lib.Dec.{leb}
 use lib.ListN.{length, take, length-map}
 use Rattle.bucket.specs.Digits.{Below}
 use Rattle.bucket.specs.Lists.{elem, Distinct}
@@ -25,7 +24,7 @@ use Rattle.filter.specs.Table.{hashesOf, isTable}
 use Rattle.filter.proofs.ListLaws.{implies-of, count-le, count-distinct, distinct-map}
 use Rattle.filter.proofs.SetLaws.{_∈_, _⊆_, either, and-l, and-r, in-append-r, asc-distinct}
 use Rattle.message.proofs.RoundLaws.{hashes-below}
-use Rattle.ledger.specs.Grid.{EXPECTING-LAST}
+use Rattle.ledger.specs.Grid.{EXPECTING-LAST, isState}
 use Rattle.ledger.specs.Session.{Ledger, Session, «in», unmet, idsOf, held, concerned}
 use Rattle.ledger.specs.Form.{goodNumbers, goodLedger, idle}
 use Rattle.ledger.specs.Memory.{allBelow, decode}
@@ -98,9 +97,9 @@ module _ (derive : ℕ → ℕ) (G : Given) (form : goodForm derive G ≡ true) 
   pub given-good : Table derive (tableOf G)
   given-good = table-of derive (G .table) given-table
 
-  pub given-low : s .state < 8
+  pub given-state : isState (s .state) ≡ true
   unfolding goodNumbers
-  given-low = ltb-true (s .state) 8 (and-l (ltb (s .state) 8) _ given-numbers)
+  given-state = and-l (isState (s .state)) _ given-numbers
 
   -- a ledger that has its room
   module _ (room : hasLedgerRoom G ≡ true) where

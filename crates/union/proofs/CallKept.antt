@@ -3,7 +3,6 @@
 --   counted-act    in state 1 the columns hold counts, as refusal 1 tests them
 --   form-call      what a call leaves, handed back, is in form
 --   ids-call       its IDSUMs keep to 64 bits
---   open-call      it is not in Finish Closing
 --
 -- Assumes nothing.
 use mathlib.Core.Path.{_≡_, refl, sym, ap, ap₂, subst, _∙_}
@@ -12,7 +11,7 @@ use mathlib.Core.List.{List, [], _∷_, map}
 use Prim.Native.Nat.{ℕ, suc, _+_, _^_, _≤_, _<_}
 use native.Mathlib.Nat.{lt-of-lt-of-le}
 use native.Mathlib.Omega.{arith}
-use lib.Dec.{eqb, ltb, leb}
+use lib.Dec.{eqb, leb}
 use lib.IntN.{ℤ, pos}
 use lib.ListN.{length, take, length-map, length-append, length-take, length-drop}
 use lib.Pow.{pow-mono}
@@ -30,15 +29,14 @@ use Rattle.message.specs.Layout.{Content, slice, Good, Slice, inSlice, sliceTyp
 use Rattle.message.specs.Laying.{laid}
 use Rattle.message.proofs.ReadLaws.{Ranges, slice-ranges}
 use Rattle.message.proofs.ShapeLaws.{choose}
-use Rattle.ledger.specs.Grid.{EXPECTING-LAST, CLOSING, isLast}
-use Rattle.ledger.specs.Session.{Ledger, Session, Outcome, «in», admitted, isComplete, sliced, readOf, tests, refusal, swapped, decoded, onSlice, change, act, halted, step}
+use Rattle.ledger.specs.Grid.{EXPECTING-LAST, ACTIVE, isState, isEnded, isLast}
+use Rattle.ledger.specs.Session.{Ledger, Session, Outcome, «in», admitted, isComplete, sliced, readOf, tests, refusal, swapped, decoded, onSlice, change, act}
 use Rattle.ledger.specs.Form.{goodNumbers, goodBooks, goodPart, goodWhole, goodLedger, idle}
 use Rattle.ledger.specs.Memory.{bit, Memory, encode, allBelow}
 use Rattle.ledger.specs.Calls.{Given, Left, numbersOf, memoryOf, tableOf, hashGiven, sessionOf, readable, countsNothing, goodFront, there, isWhole, goodBack, goodForm, hasLedgerRoom, hasRooms, early, unchanged, ended, went, stepCall}
 use Rattle.ledger.proofs.BookLaws.{Form, table-of, of-form}
-use Rattle.ledger.proofs.ChangeLaws.{open-step}
-use Rattle.ledger.proofs.FaultLaws.{Ended, by-kind, Passed, passed, stopped-late}
-use Rattle.ledger.proofs.GridLaws.{late-idle}
+use Rattle.ledger.proofs.FaultLaws.{Ended, by-kind, Passed, passed}
+use Rattle.ledger.proofs.GridLaws.{ended-state, stopped-ended, ended-other, ended-idle}
 use Rattle.ledger.proofs.Lawful.{lawful}
 use Rattle.ledger.proofs.MemoryLaws.{marks-below, flags-below}
 use Rattle.ledger.proofs.ThereLaws.{ledgered, back-whole}
@@ -203,26 +201,23 @@ module _ (derive : ℕ → ℕ) (n : ℕ) (G : Given) (u : Session) (form : good
   abbrev over-now : Given
   over-now = back G (ended n u G) hash bs out
 
-  late : (6 ≤ u .state) × (u .state < 8)
-  late = subst (λ (q : ℕ). (6 ≤ q) × (q < 8)) (sym (e .state)) (stopped-late (sessionOf derive G .state))
-
-  not-idle : (v : Session) → v .state ≡ u .state → idle v ≡ false
-  not-idle v q = late-idle v (omega (arith, late, q))
+  late : isEnded (u .state) ≡ true
+  late = ap isEnded (e .state) ∙ stopped-ended (sessionOf derive G .state)
 
   none-asked : (v : Session) (b : Bool) → v .state ≡ u .state → implies (idle v) b ≡ true
-  none-asked v b q = ap (λ (x : Bool). implies x b) (not-idle v q)
+  none-asked v b q = ap (λ (x : Bool). implies x b) (ended-idle v (ap isEnded q ∙ late))
 
-  other : (v : Session) (k : ℕ) (b : Bool) → v .state ≡ u .state → k < 6 → implies («in» v k) b ≡ true
-  other v k b q h = ap (λ (x : Bool). implies x b) (ne-eqb (v .state) k (λ z. absurd (omega (arith, late, q, z, h))))
+  other : (k : ℕ) (b : Bool) → isEnded k ≡ false → implies (eqb (u .state) k) b ≡ true
+  other k b n = ap (λ (x : Bool). implies x b) (ended-other (u .state) k late n)
 
   ended-front : goodFront derive over-now ≡ true
   unfolding goodFront goodNumbers sessionOf countsNothing readable
   ended-front =
       and-holds (given-table derive G form)
       (and-holds (given-readable derive G form)
-      (and-holds (and-holds (lt-ltb (u .state) 8 (late .1)) (and-r (ltb (G .numbers .state) 8) _ (given-numbers derive G form)))
+      (and-holds (and-holds (ended-state (u .state) late) (and-r (isState (G .numbers .state)) _ (given-numbers derive G form)))
       (and-holds (none-asked (sessionOf derive over-now) (countsNothing (G .numbers)) refl)
-      (other (sessionOf derive over-now) 1 (areCounts 2520 (u .columns .counts)) refl (omega arith)))))
+      (other EXPECTING-LAST (areCounts 2520 (u .columns .counts)) refl))))
 
   ended-good : goodForm derive over-now ≡ true
   unfolding goodForm goodBack goodPart goodWhole sessionOf memoryOf isWhole
@@ -236,7 +231,7 @@ module _ (derive : ℕ → ℕ) (n : ℕ) (G : Given) (u : Session) (form : good
       (and-holds (and-l (allBelow 16 (memoryOf (there G) .flags)) _ b1)
       (and-holds
       (and-holds (and-l (goodBooks derive (tableOf G) (sessionOf derive (there G) .ledger)) _ b3) (none-asked (sessionOf derive (there over-now)) _ refl))
-      (of-implies (isWhole over-now) _ (λ k. other (sessionOf derive (there over-now)) 2 _ refl (omega arith))))))
+      (of-implies (isWhole over-now) _ (λ k. other ACTIVE _ refl)))))
 
 -- ---- every call
 
@@ -259,25 +254,12 @@ module _ (derive : ℕ → ℕ) (bound : (h : ℕ) → h < 2 ^ 512 → derive h 
     abbrev table-form : Form derive (tableOf G) s
     table-form = given-form derive G form (rooms-of G rooms .ledger)
 
-    heard-keeps : (P : Session → Type 0) → ((c : Content) → Good c → P (step derive (tableOf G) (hashGiven G) s c .session)) → P (halted derive (tableOf G) s)
-        → P (heard derive G .session)
-    heard-keeps P x y = heard-either derive G (lent .message) (λ (o : Outcome). P (o .session)) x y
-
     heard-narrow : Narrow (heard derive G .session)
     heard-narrow =
         let n : Narrow s = given-narrow derive G lent in
-        heard-keeps Narrow
+        heard-either derive G (lent .message) (λ (o : Outcome). Narrow (o .session))
         (λ c g. narrow-kept derive bound (tableOf G) (given-good derive G form) (table-short G) (hashGiven G) s c table-form n g)
         (record { columns = n .columns; demanded = n .demanded })
-
-    heard-open : «in» s CLOSING ≡ false → «in» (heard derive G .session) CLOSING ≡ false
-    heard-open o =
-        heard-keeps (λ (u : Session). «in» u CLOSING ≡ false) (λ c g. open-step derive (tableOf G) (hashGiven G) s c table-form o)
-        (either-ends (eqb (s .state) 6))
-      where
-        either-ends : (b : Bool) → eqb (cond b 6 7) CLOSING ≡ false
-        either-ends true = refl
-        either-ends false = refl
 
     leaves-good : (hash bs out : List ℕ) (l : Left) (o : Outcome) → Leaves derive G l o → goodForm derive (back G l hash bs out) ≡ true
     leaves-good hash bs out l o (acted c g e is made) =
@@ -297,21 +279,10 @@ module _ (derive : ℕ → ℕ) (bound : (h : ℕ) → h < 2 ^ 512 → derive h 
       go true e = leaves-good e hash bs out (stepCall derive G) (heard derive G) (call-leaves derive G form e (lent .message))
       go false e = subst (λ (k : Left). goodForm derive (back G k hash bs out) ≡ true) (sym (short-of e)) (unchanged-good hash bs out)
 
-  -- what is kept of a session by every step is kept by every call
-  kept-call : (P : Session → Type 0) → P s → (hasRooms G ≡ true → P (heard derive G .session)) → P (sessionOf derive (back G (stepCall derive G) [] [] []))
-  kept-call P same x = go (hasRooms G) refl
-    where
-      unchanged-session : sessionOf derive (back G (unchanged 2 (G .numbers .state) G) [] [] []) ≡ s
-      unchanged-session = unfold sessionOf memoryOf in refl
-
-      go : (b : Bool) → hasRooms G ≡ b → P (sessionOf derive (back G (stepCall derive G) [] [] []))
-      go true e = subst P (sym (call-session derive bound G form e lent [] [] [])) (x e)
-      go false e = subst (λ (k : Left). P (sessionOf derive (back G k [] [] []))) (sym (short-of e)) (subst P (sym unchanged-session) same)
-
   pub ids-call : Below 64 (stepCall derive G .columns .idsums)
   unfolding sessionOf
-  ids-call = kept-call (λ (u : Session). Below 64 (u .columns .idsums)) (lent .ids) (λ e. heard-narrow e .columns)
-
-  pub open-call : eqb (G .numbers .state) CLOSING ≡ false → eqb (stepCall derive G .answer .next .state) CLOSING ≡ false
-  unfolding sessionOf
-  open-call o = kept-call (λ (u : Session). «in» u CLOSING ≡ false) o (λ e. heard-open e o)
+  ids-call = go (hasRooms G) refl
+    where
+      go : (b : Bool) → hasRooms G ≡ b → Below 64 (stepCall derive G .columns .idsums)
+      go true e = subst (λ (u : Session). Below 64 (u .columns .idsums)) (sym (call-session derive bound G form e lent [] [] [])) (heard-narrow e .columns)
+      go false e = subst (λ (k : Left). Below 64 (k .columns .idsums)) (sym (short-of e)) (lent .ids)

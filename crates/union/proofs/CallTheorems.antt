@@ -10,34 +10,33 @@
 --   Sends                what the outgoing buffer holds after a call (CallSends)
 --
 -- Assumes nothing.
-use mathlib.Core.Path.{_≡_}
+use mathlib.Core.Path.{_≡_, refl}
 use mathlib.Core.Logic.{_≢_}
-use mathlib.Core.Bool.{true, false, cond}
+use mathlib.Core.Bool.{Bool, true, false, cond}
 use mathlib.Core.List.{List, []}
 use Prim.Native.Nat.{ℕ, _^_, _<_}
-use lib.Dec.{ltb}
 use Rattle.bucket.specs.Columns.{view}
-use Rattle.bucket.specs.Digits.{Below}
 use Rattle.bucket.specs.Lists.{elem, Distinct}
 use Rattle.filter.specs.Calls.{readCall}
 use Rattle.filter.specs.Filter.{filterRule, filterOf}
 use Rattle.filter.specs.Stopping.{differing, Clear, Exactly}
 use Rattle.filter.specs.Table.{hashesOf}
+use Rattle.filter.proofs.SetLaws.{clash}
 use Rattle.message.specs.declared.kinds.Message.the-variants.{IbfLast}
 use Rattle.message.specs.Layout.{Content, Good, layout}
 use Rattle.message.specs.Laying.{laid}
 use Rattle.message.specs.Walking.{exactlyOne}
-use Rattle.ledger.specs.Grid.{CLOSING, FINISHED}
+use Rattle.ledger.specs.Grid.{isState, isEnded}
 use Rattle.ledger.specs.Session.{answer, placed, isComplete, oursIn, theirsIn, ownFilter, idsOf, readOf, refusal, halted, step}
-use Rattle.ledger.specs.Calls.{Given, goodForm, hasRooms, tableOf, hashGiven, sessionOf, stepCall, startReceiver, startSender}
+use Rattle.ledger.specs.Calls.{Given, goodForm, hasRooms, early, tableOf, hashGiven, sessionOf, unchanged, stepCall, startReceiver, startSender}
 use Rattle.ledger.proofs.Theorems.{Trusted}
-use Rattle.union.proofs.CallGiven.{Lent}
+use Rattle.union.proofs.CallGiven.{Lent, given-state}
 use Rattle.union.proofs.CallKept.{form-call}
 use Rattle.union.proofs.CallReads as Reads
 use Rattle.union.proofs.CallSends.{Sends, call-sends, start-sends}
 use Rattle.union.proofs.Called.{isMessage, saidIn, heard, heard-layout, call-number, call-session}
 use Rattle.union.proofs.HandedBack.{back}
-use Rattle.union.proofs.Sequences.{Calls, next, calls-refusal, calls-open}
+use Rattle.union.proofs.Sequences.{Calls, calls-refusal}
 use Rattle.union.proofs.Starts.{begunBy, receiver-begins, sender-begins}
 
 -- ---- a call is the definition's step
@@ -60,9 +59,18 @@ module _ (derive : ℕ → ℕ) (G : Given) where
   -- a call answers 5 where the session has ended, 4 where the bytes are no message, and else the definition's number
   pub call-refusal : goodForm derive G ≡ true → hasRooms G ≡ true
       → stepCall derive G .answer .refusal
-      ≡ cond (ltb (G .numbers .state) FINISHED)
-      (cond (isMessage (exactlyOne (G .message))) (refusal derive (tableOf G) (hashGiven G) (sessionOf derive G) (saidIn G)) 4) 5
+      ≡ cond (isEnded (G .numbers .state)) 5
+      (cond (isMessage (exactlyOne (G .message))) (refusal derive (tableOf G) (hashGiven G) (sessionOf derive G) (saidIn G)) 4)
   call-refusal = call-number derive G
+
+  -- a number that is no state's, as 4 or 8, is refused with 1, and everything is as it was, the number too
+  pub no-state-refused : isState (G .numbers .state) ≡ false → stepCall derive G ≡ unchanged 1 (G .numbers .state) G
+  unfolding stepCall early sessionOf
+  no-state-refused e = go (goodForm derive G) refl
+    where
+      go : (b : Bool) → goodForm derive G ≡ b → stepCall derive G ≡ unchanged 1 (G .numbers .state) G
+      go true form = absurd (clash (given-state derive G form) e)
+      go false form = rw form
 
 module _ (derive : ℕ → ℕ) (bound : (h : ℕ) → h < 2 ^ 512 → derive h < 2 ^ 64) where
   -- what a call leaves, handed back, is read as exactly the session after what is heard, whether the message is acted on or refused
@@ -75,11 +83,11 @@ module _ (derive : ℕ → ℕ) (bound : (h : ℕ) → h < 2 ^ 512 → derive h 
   -- what a start of either kind leaves is in form, whatever stands in the memory that it does not write
   pub receiver-form : (G : Given) → startReceiver derive (G .table) (G .marks) .answer .refusal ≡ 0
       → goodForm derive (begunBy (startReceiver derive (G .table) (G .marks)) G) ≡ true
-  receiver-form G e = receiver-begins derive G e .0
+  receiver-form = receiver-begins derive
 
   pub sender-form : (G : Given) (size salt : ℕ) (out : List ℕ) → startSender derive size salt (G .table) (G .marks) out .answer .refusal ≡ 0
       → goodForm derive (begunBy (startSender derive size salt (G .table) (G .marks) out) G) ≡ true
-  sender-form G size salt out e = sender-begins derive G size salt out e .0
+  sender-form = sender-begins derive
 
   -- what a call on a good form leaves is in form, for any bytes as message, with its rooms or without
   pub call-form : (G : Given) → goodForm derive G ≡ true → Lent G → (hash message out : List ℕ)
@@ -89,10 +97,6 @@ module _ (derive : ℕ → ℕ) (bound : (h : ℕ) → h < 2 ^ 512 → derive h 
   -- over any sequence of calls from a start, with any bytes as messages, no call is refused with 1
   pub never-form : {G : Given} → Calls derive G → stepCall derive G .answer .refusal ≢ 1
   never-form = calls-refusal derive bound
-
-  -- and none leads to Finish Closing
-  pub never-closing : {G : Given} → Calls derive G → Below 8 (G .message) → stepCall derive G .answer .next .state ≢ CLOSING
-  never-closing calls bytes = calls-open derive bound (next calls bytes [] [] [])
 
   -- ---- what is sent
 

@@ -11,15 +11,13 @@
 --
 -- Assumes nothing.
 use mathlib.Core.Path.{_≡_, refl, sym, ap, ap₂, subst, _∙_}
-use mathlib.Core.Logic.{_≢_, _⊎_, inl, inr}
-use mathlib.Core.Bool.{Bool, true, false, cond}
+use mathlib.Core.Logic.{_⊎_, inl, inr}
+use mathlib.Core.Bool.{Bool, true, false, _||_, cond, true≢false}
 use mathlib.Core.List.{List, [], _++_}
-use Prim.Native.Nat.{ℕ, _^_, _≤_, _<_}
-use native.Mathlib.Omega.{arith}
-use lib.Dec.{eqb, ltb}
+use Prim.Native.Nat.{ℕ, _^_, _<_}
+use lib.Dec.{eqb}
 use lib.ListN.{length}
 use lib.Pow.{pow-pos}
-use borrow.Author.Tests.{ltb-true, ltb-false, ne-eqb, eqb-true, eqb-false}
 use Rattle.bucket.specs.Digits.{groups, packed, Below}
 use Rattle.bucket.specs.Lists.{over}
 use Rattle.bucket.proofs.OverLaws.{over-nil}
@@ -33,14 +31,15 @@ use Rattle.message.specs.Writing.{layouts}
 use Rattle.message.proofs.CompleteLaws.{complete, head-never}
 use Rattle.message.proofs.SoundLaws.{Sound, sound}
 use Rattle.message.proofs.ShapeLaws.{choose}
-use Rattle.ledger.specs.Grid.{FINISHED}
+use Rattle.ledger.specs.Grid.{FINISHED, ABORTED, isEnded}
 use Rattle.ledger.specs.Session.{Session, Outcome, Change, answer, sliced, acts, stopped, refusal, swapped, decoded, change, act, halted, refused, step}
 use Rattle.ledger.specs.Calls.{Given, Left, goodForm, hasLedgerRoom, hasRooms, early, tableOf, hashGiven, sessionOf, unchanged, ended, went, stepSaid, stepOn, stepCall}
 use Rattle.ledger.proofs.BookLaws.{Books, Form}
 use Rattle.ledger.proofs.FaultLaws.{Ended, by-kind, by-reading, by-step, refused-ended}
+use Rattle.ledger.proofs.GridLaws.{ended-stopped}
 use Rattle.ledger.proofs.Lawful.{checkIn, lawful}
 use Rattle.ledger.proofs.Theorems.{form-kept, refusal-buffers, ended-stays}
-use Rattle.union.proofs.CallGiven.{given-good, given-low, given-form, roomy, Lent, table-short, given-narrow, given-far, rooms-of}
+use Rattle.union.proofs.CallGiven.{given-good, given-form, roomy, Lent, table-short, given-narrow, given-far, rooms-of}
 use Rattle.union.proofs.HandedBack.{back, Roomy, handed-back, ended-back}
 use Rattle.union.proofs.SentLaws.{Narrow, narrow-kept}
 
@@ -107,6 +106,14 @@ heard-layout derive G c g m = rw (there) (ap (step derive (tableOf G) (hashGiven
 
 -- ---- what a call leaves
 
+-- a refusal aborts a session that has not ended
+going-stopped : (q : ℕ) → isEnded q ≡ false → stopped q ≡ ABORTED
+going-stopped q going = go (eqb q FINISHED) going
+  where
+    go : (b : Bool) → b || eqb q ABORTED ≡ false → cond b FINISHED ABORTED ≡ ABORTED
+    go true e = absurd (true≢false e)
+    go false e = refl
+
 module _ (derive : ℕ → ℕ) (G : Given) where
   abbrev s : Session
   s = sessionOf derive G
@@ -162,12 +169,12 @@ module _ (derive : ℕ → ℕ) (G : Given) where
       go false e = stopped-by (number c) (refused derive t (number c) s c) (refused-ended derive t (number c) s c) refl refl
 
   -- a session that has ended
-  ended-heard : 6 ≤ s .state → s .state < 8 → heard derive G ≡ answer (halted derive t s) []
+  ended-heard : isEnded (s .state) ≡ true → heard derive G ≡ answer (halted derive t s) []
   unfolding heard step
-  ended-heard low high = go (isMessage (exactlyOne (G .message)))
+  ended-heard e = go (isMessage (exactlyOne (G .message)))
     where
       five : number (saidIn G) ≡ 5
-      five = ended-stays derive t (hashGiven G) s (saidIn G) low high .0
+      five = ended-stays derive t (hashGiven G) s (saidIn G) e .0
 
       go : (b : Bool) → cond b (step derive t (hashGiven G) s (saidIn G)) (answer (halted derive t s) []) ≡ answer (halted derive t s) []
       go true = rw five (ap (λ (u : Session). answer u []) (refusal-buffers derive t 5 s (saidIn G) refl))
@@ -175,51 +182,39 @@ module _ (derive : ℕ → ℕ) (G : Given) where
 
   -- 5 where the session has ended, 4 where the bytes are no message, and else the definition's
   pub call-number : goodForm derive G ≡ true → hasRooms G ≡ true
-      → stepCall derive G .answer .refusal ≡ cond (ltb (G .numbers .state) FINISHED) (cond (isMessage (exactlyOne (G .message))) (number (saidIn G)) 4) 5
+      → stepCall derive G .answer .refusal ≡ cond (isEnded (G .numbers .state)) 5 (cond (isMessage (exactlyOne (G .message))) (number (saidIn G)) 4)
   unfolding stepCall early
-  call-number form rooms = go (ltb (G .numbers .state) FINISHED) refl
+  call-number form rooms = go (isEnded (G .numbers .state)) refl
     where
       said : (b : Bool) → cond b (stepOn derive (saidIn G) G) (unchanged 4 7 G) .answer .refusal ≡ cond b (number (saidIn G)) 4
       said true = on-number (saidIn G)
       said false = refl
 
-      go : (b : Bool) → ltb (G .numbers .state) FINISHED ≡ b
-          → stepCall derive G .answer .refusal ≡ cond (ltb (G .numbers .state) FINISHED) (cond (isMessage (exactlyOne (G .message))) (number (saidIn G)) 4) 5
-      go true e =
+      go : (b : Bool) → isEnded (G .numbers .state) ≡ b
+          → stepCall derive G .answer .refusal ≡ cond (isEnded (G .numbers .state)) 5 (cond (isMessage (exactlyOne (G .message))) (number (saidIn G)) 4)
+      go true e = rw (form, rooms, e)
+      go false e =
           rw (form, rooms, e)
           (ap (λ (l : Left). l .answer .refusal) (on-said (exactlyOne (G .message))) ∙ said (isMessage (exactlyOne (G .message))))
-      go false e = rw (form, rooms, e)
 
   module _ (form : goodForm derive G ≡ true) (rooms : hasRooms G ≡ true) (bytes : Below 8 (G .message)) where
     pub call-leaves : Leaves (stepCall derive G) (heard derive G)
     unfolding stepCall early heard sessionOf
-    call-leaves = go (ltb (G .numbers .state) FINISHED) refl
+    call-leaves = go (isEnded (G .numbers .state)) refl
       where
-        seven : G .numbers .state < 6 → stopped (G .numbers .state) ≡ 7
-        seven h = ap (λ (b : Bool). cond b 6 7) (ne-eqb (G .numbers .state) 6 (λ e. absurd (omega (arith, h))))
-
-        stays : 6 ≤ G .numbers .state → G .numbers .state < 8 → stopped (G .numbers .state) ≡ G .numbers .state
-        stays low high = at (eqb (G .numbers .state) 6) refl
-          where
-            at : (b : Bool) → eqb (G .numbers .state) 6 ≡ b → cond b 6 7 ≡ G .numbers .state
-            at true e = sym (eqb-true (G .numbers .state) 6 e)
-            at false e = let ne : G .numbers .state ≢ 6 = eqb-false (G .numbers .state) 6 e in omega arith
-
-        said : G .numbers .state < 6 → (b : Bool) → isMessage (exactlyOne (G .message)) ≡ b
+        said : isEnded (G .numbers .state) ≡ false → (b : Bool) → isMessage (exactlyOne (G .message)) ≡ b
             → Leaves (cond b (stepOn derive (saidIn G) G) (unchanged 4 7 G)) (cond b (step derive t (hashGiven G) s (saidIn G)) (answer (halted derive t s) []))
-        said low true e = on-leaves (saidIn G) (read-good (G .message) bytes e)
-        said low false e = stopped-by 4 (halted derive t s) halts (unchanged-halts 4 7 (seven low)) refl
+        said going true e = on-leaves (saidIn G) (read-good (G .message) bytes e)
+        said going false e = stopped-by 4 (halted derive t s) halts (unchanged-halts 4 7 (going-stopped (G .numbers .state) going)) refl
 
-        go : (b : Bool) → ltb (G .numbers .state) FINISHED ≡ b → Leaves (stepCall derive G) (heard derive G)
+        go : (b : Bool) → isEnded (G .numbers .state) ≡ b → Leaves (stepCall derive G) (heard derive G)
         go true e =
             rw (form, rooms, e)
-            (subst (λ (l : Left). Leaves l (heard derive G)) (sym (on-said (exactlyOne (G .message))))
-            (said (ltb-true (G .numbers .state) 6 e) (isMessage (exactlyOne (G .message))) refl))
+            (stopped-by 5 (halted derive t s) halts (unchanged-halts 5 (G .numbers .state) (ended-stopped (G .numbers .state) e)) (ended-heard e))
         go false e =
-            let low : 6 ≤ G .numbers .state = ltb-false (G .numbers .state) 6 e in
-            let high : G .numbers .state < 8 = given-low derive G form in
             rw (form, rooms, e)
-            (stopped-by 5 (halted derive t s) halts (unchanged-halts 5 (G .numbers .state) (stays low high)) (ended-heard low high))
+            (subst (λ (l : Left). Leaves l (heard derive G)) (sym (on-said (exactlyOne (G .message))))
+            (said e (isMessage (exactlyOne (G .message))) refl))
 
 -- ---- the session after it
 

@@ -20,7 +20,7 @@ use Rattle.message.specs.Layout.{Content, slice, done, inSlice}
 use Rattle.message.specs.Laying.{laid}
 use Rattle.message.specs.Writing.{inquiriesOf, offersOf, slicesOf, sliceAt}
 use Rattle.filter.specs.Sets.{_∪_, isNil, count}
-use Rattle.ledger.specs.Grid.{EXPECTING, EXPECTING-LAST, ACTIVE, isLast, entry}
+use Rattle.ledger.specs.Grid.{EXPECTING, EXPECTING-LAST, ACTIVE, isLast, placeIn, entry}
 use Rattle.ledger.specs.Session.{Session, noLedger, bySlice, admitted, placed, isComplete, oursIn, theirsIn, ownFilter, sliced, idsOf, hashOf, held, checksum, hashesFor, readingAt, tooMany, tests, decoded, onSlice, act}
 use Rattle.ledger.proofs.ReadingLaws.{complete-clean}
 use Rattle.union.proofs.Net.{hears-then}
@@ -68,7 +68,7 @@ module _ (R : Rules) (B : List ℕ) (size salt : ℕ) where
 
   read-slices : (made : Columns) (width : ℕ) → size ≤ 4096 → (s : Session) → let r = readAll R B s size salt (slicesOf size salt width made) in
       isComplete r ≡ true → Fits r → Begins (put s EXPECTING false noLedger) (slicesOf size salt width made) r
-  unfolding slicesOf laidAll tests admitted entry placed bySlice act onSlice sliced
+  unfolding slicesOf laidAll tests admitted entry placeIn placed bySlice act onSlice sliced
   read-slices made width most s full fits = go (ltb 2520 size) refl full fits
     where
       head : Content

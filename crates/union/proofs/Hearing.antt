@@ -12,7 +12,7 @@
 -- Each says that no message is refused, and what the ledger is then and what was sent, over the lists that the messages carry.
 -- Assumes nothing.
 use mathlib.Core.Path.{_≡_, refl, sym, ap, _∙_, subst}
-use mathlib.Core.Bool.{Bool, true, false, _||_, cond}
+use mathlib.Core.Bool.{Bool, true, false, _||_, cond, and-false, and-true}
 use mathlib.Core.List.{List, [], _∷_, _++_, map, flatten, append-nil, map-append}
 use mathlib.Core.Logic.{_⊎_, inl, inr}
 use Prim.Native.Nat.{ℕ, _≤_}
@@ -28,8 +28,8 @@ use Rattle.filter.specs.Sets.{_∪_, isNil, all, news, implies}
 use Rattle.filter.proofs.SetLaws.{_∈_, _⊆_, clash, not-in, not-in-nil, in-append-l, in-append-r, append-in, in-∪-l, ∪-in, ∪-nil, in-∖, ∖-in, ∪-append}
 use Rattle.filter.proofs.ListLaws.{all-of, not-all, select-of, isNil-yes, isNil-no, Apart, distinct-front, distinct-apart, once-of, news-of, of-implies}
 use Rattle.message.specs.Layout.{inquiry, offer, demand, element, done}
-use Rattle.ledger.specs.Grid.{ACTIVE, PASSIVE, WAITING, FINISHED, entry}
-use Rattle.ledger.specs.Session.{Ledger, Session, unmet, doneIf, bySlice, idsOf, hashOf, held, checksum, concerned, allCame, hashesFor, asks, new, allowed, agrees, lastOne, tests, ownDone, saysDone, change, act}
+use Rattle.ledger.specs.Grid.{ACTIVE, PASSIVE, WAITING, FINISHED, placeIn, entry}
+use Rattle.ledger.specs.Session.{Ledger, Session, unmet, doneIf, bySlice, idsOf, hashOf, held, checksum, concerned, allCame, hashesFor, asks, new, allowed, agrees, lastOne, waits, tests, ownDone, saysDone, change, act}
 use Rattle.ledger.proofs.HeldLaws.{in-ids, ids-in, ids-part, ids-distinct, ids-apart, ids-count, unmet-in, Concerned, concerned-in}
 use Rattle.union.proofs.Net.{hears-then}
 use Rattle.union.proofs.Ends.{Rules, elementOf, Worked, end, next, says, put, keeping, led, sum, Part, now-in, now-apart, map-flatMap, flatMap-self, flatMap-single, flatMap-none, ends-with, Takes, Hear, hears-as, hear, admits, hears-list, hears-cut}
@@ -41,7 +41,7 @@ module _ (R : Rules) (t : List ℕ) (s : Session) where
       → (f′ : Bool) × (ds : List (List ℕ)) × (flatten ds ≡ map (hashOf (R .idOf) t) l)
       × Hear R (end t (put s PASSIVE f (led [] [] [] [] [] [] false))) (map (inquiry (s .salt)) cs)
       (end t (put s PASSIVE f′ (led [] l (map (hashOf (R .idOf) t) l) [] [] [] false))) (map offer ds)
-  unfolding tests entry bySlice act change asks held _∪_ hashesFor
+  unfolding tests entry placeIn bySlice act change asks held _∪_ hashesFor
   hears-inquiries l d has =
       hears-cut R (inquiry (s .salt)) offer hashes refl (map-append (hashOf (R .idOf) t)) (λ f a. end t (at f a)) l d
       (λ f a c p.
@@ -140,7 +140,7 @@ module _ (R : Rules) (t : List ℕ) (s : Session) where
 
     -- "it is gained": what follows depends on whether it is the last one
     abbrev ends : ℕ → Ledger → Bool
-    ends q L = lastOne (R .idOf) t (put s q false L) L
+    ends q L = lastOne (put s q false L) L
 
     abbrev closes : ℕ → Ledger → Bool
     closes q L = saysDone (R .idOf) t (put s q false L) L
@@ -206,11 +206,11 @@ module _ (R : Rules) (t : List ℕ) (s : Session) where
     unfolding unmet
     some-unmet l g b y here fresh = isNil-no _ y (in-∖ y (l ∪ []) (g ∪ []) (in-∪-l y l [] here) (not-in y (g ∪ []) (λ k. fresh (∪-nil y g k))))
 
-    -- "In 4 and 5 the last ELEMENT compares, in 5 also sends DONE. Equal: 6."
+    -- "In 5 the last ELEMENT compares and also sends DONE. Equal: 6."
     pub hears-last-waiting : (x : ℕ) (xs : List ℕ) (b : Bool) → let l = x ∷ xs in Distinct l → Worked R l → s .far ≡ sum (l ∪ [] ∪ t)
         → Hear R (end t (put s WAITING false (led inquired asked offered served l [] b))) (map (elementOf R) l)
         (end t (put s FINISHED false (led inquired asked offered served l l true))) (done (sum (l ∪ [] ∪ t)) ∷ [])
-    unfolding lastOne saysDone agrees checksum held entry
+    unfolding lastOne saysDone agrees checksum held entry placeIn
     hears-last-waiting x xs b d right same =
         let l : List ℕ = x ∷ xs in
         rw (all-met l b) at
@@ -223,7 +223,7 @@ module _ (R : Rules) (t : List ℕ) (s : Session) where
         → idsOf (R .idOf) l ⊆ inquired → inquired ⊆ idsOf (R .idOf) (l ∪ [] ∪ t)
         → Hear R (end t (put s ACTIVE f (led inquired asked offered served l [] false))) (map (elementOf R) l)
         (end t (put s ACTIVE false (led inquired asked offered served l l true))) (done (sum (l ∪ [] ∪ t)) ∷ [])
-    unfolding lastOne saysDone allCame checksum held entry
+    unfolding lastOne saysDone allCame checksum held entry placeIn
     hears-last-active U noShared tU x xs f d right lU lt lQ met =
         let l : List ℕ = x ∷ xs in
         let came : all (λ i. elem i (idsOf (R .idOf) (l ∪ [] ∪ t))) (inquired ∪ []) ≡ true = all-of _ (inquired ∪ []) (λ i e. met i (∪-nil i inquired e)) in
@@ -250,19 +250,19 @@ module _ (R : Rules) (t : List ℕ) (s : Session) where
     pub hears-done : (q : ℕ) → Takes q (done 0) → (c : ℕ) (f b : Bool) (l : List ℕ) → (eqb q ACTIVE ≡ true → b ≡ true) → c ≡ sum (l ∪ [] ∪ t)
         → Hear R (end t (put s q f (led inquired asked offered served l l b))) (done c ∷ [])
         (end t (put s FINISHED false (led inquired asked offered served l l (eqb q PASSIVE || b)))) (cond (eqb q PASSIVE) (done (sum (l ∪ [] ∪ t)) ∷ []) [])
-    unfolding tests bySlice act change agrees checksum held
+    unfolding tests bySlice act change waits agrees checksum held
     hears-done q takes c f b l timely same =
         let s1 : Session = put s q f (led inquired asked offered served l l b) in
-        rw (all-met l b, append-nil) at
+        rw (all-met l b, and-false (eqb q PASSIVE), and-true (eqb q PASSIVE), append-nil) at
         (hear R t s1 (done c) 0 refl (admits s1 (done c) refl takes)
-        (of-implies (eqb q ACTIVE) b timely, (rw (all-met l b, same) (eqb-self (sum (l ∪ [] ∪ t))), tt)))
+        (of-implies (eqb q ACTIVE) b timely, (rw (all-met l b, and-false (eqb q PASSIVE), same) (eqb-self (sum (l ∪ [] ∪ t))), tt)))
 
     -- "DONE in 3: 5 if a demand is unmet"
     pub hears-done-early : (c : ℕ) (f b : Bool) (x : ℕ) (xs : List ℕ) → let l = x ∷ xs in
         Hear R (end t (put s PASSIVE f (led inquired asked offered served l [] b))) (done c ∷ [])
         (end t (put (keeping c s) WAITING false (led inquired asked offered served l [] b))) []
-    unfolding tests bySlice act change entry
+    unfolding tests bySlice act change waits entry placeIn
     hears-done-early c f b x xs =
         let s1 : Session = put s PASSIVE f (led inquired asked offered served (x ∷ xs) [] b) in
-        let waits = some-unmet (x ∷ xs) [] b x (elem-head x xs) (not-in-nil x) in
-        rw waits at (hear R t s1 (done c) 0 refl (admits s1 (done c) refl refl) (refl, (rw waits refl, tt)))
+        let early = some-unmet (x ∷ xs) [] b x (elem-head x xs) (not-in-nil x) in
+        rw early at (hear R t s1 (done c) 0 refl (admits s1 (done c) refl refl) (refl, (rw early refl, tt)))

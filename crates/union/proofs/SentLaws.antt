@@ -40,7 +40,7 @@ use Rattle.ledger.proofs.BookLaws.{Table, Form}
 use Rattle.ledger.proofs.HeldLaws.{ids-in, ids-part, held-in, table-held, hashes-held}
 use Rattle.ledger.proofs.ReadingLaws.{read-law}
 use Rattle.ledger.proofs.FaultLaws.{Ranges, ranges, by-kind, Passed, by-reading, by-step}
-use Rattle.ledger.proofs.Lawful.{hashesIn, Says, nothing, closing, offers, demands, Lawful, lawful}
+use Rattle.ledger.proofs.Lawful.{hashesIn, Says, nothing, ending, offers, demands, Lawful, lawful}
 use Rattle.ledger.proofs.Theorems.{after, AllGood, form-kept}
 use Rattle.ledger.proofs.FilterRoomLaws.{blank, next-in-range, own, own-counts, own-room}
 use Rattle.ledger.proofs.BelowLaws.{Fit, below-of, fit-of, fit-part, over-below, zeros-below, xor-fit}
@@ -159,7 +159,7 @@ module _ (derive : ℕ → ℕ) (bound : (h : ℕ) → h < 2 ^ 512 → derive h 
       where
         go : Says derive t (s .ledger) c ch → All-good (ch .sent)
         go (nothing e) = subst All-good (sym e) tt
-        go (closing e) =
+        go (ending e) =
             subst All-good (sym e) (done-good (ch .ledger) (fit-part 512 (ch .ledger .gained) (ch .ledger .demanded) (l .books .gainedDemanded) demanded-fit))
         go (offers xs p e) = subst All-good (sym e) (offered-good s xs f n p)
         go (demands hs p e) = subst All-good (sym e) (demands-good hs (below-of 512 hs (fit-part 512 hs (hashesIn c) p g)))

@@ -175,7 +175,7 @@ module _ (derive : ℕ → ℕ) (t : List ℕ) where
         (omega (arith, demands-room (new derive t (s .ledger) hs) (omega (arith, new-few hs, many hs g))))
     change-fits (demand hs) k g fs = (omega (arith, nothing-long, many hs g), fit-of 512 hs (g .fit), inr refl)
     change-fits (element bytes) k g fs = own-done (saysDone derive t s (gaining h (s .ledger))) (gaining h (s .ledger))
-    change-fits (done check) k g fs = own-done (isNil (unmet (s .ledger)) && «in» s PASSIVE) (s .ledger)
+    change-fits (done check) k g fs = own-done («in» s PASSIVE && isNil (unmet (s .ledger))) (s .ledger)
 
   -- ---- a step
 

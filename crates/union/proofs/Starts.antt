@@ -1,16 +1,16 @@
 -- A start leaves a session in form, whatever stands in the memory that it does not write. Assumes nothing.
 --
 --   begunBy a G   what a caller gives to the first step: what the start left, and for the rest anything, here from G
---   receiver-begins, sender-begins   it is in form, and not in Finish Closing
+--   receiver-begins, sender-begins   it is in form
 use mathlib.Core.Path.{_≡_, refl, sym, ap, _∙_}
 use mathlib.Core.Bool.{Bool, true, false, _&&_, cond}
 use mathlib.Core.List.{List, [], _∷_, _++_}
 use Prim.Native.Nat.{ℕ, zero, suc, _-_, _/_, min}
 use native.Mathlib.Omega.{arith}
-use lib.Dec.{eqb, leb}
+use lib.Dec.{leb}
 use lib.ListN.{length, take, replicate, length-replicate}
 use Rattle.bucket.specs.Crc as Crc
-use Rattle.bucket.specs.Lists.{over}
+use Rattle.bucket.specs.Lists.{elem, over}
 use Rattle.bucket.proofs.OverLaws.{part-over}
 use Rattle.bucket.proofs.TestLaws.{and-holds}
 use Rattle.filter.specs.Calls.{inRange}
@@ -18,7 +18,6 @@ use Rattle.filter.specs.Sets.{implies, every, all, _∪_}
 use Rattle.filter.specs.Table.{hashesOf, isTable}
 use Rattle.filter.proofs.ListLaws.{of-implies}
 use Rattle.ledger.specs.declared.numbers.Numbers.{Numbers}
-use Rattle.ledger.specs.Grid.{CLOSING}
 use Rattle.ledger.specs.Session.{noLedger, idsOf}
 use Rattle.ledger.specs.Form.{goodNumbers, goodBooks, goodPart, goodWhole, idle, nothing}
 use Rattle.ledger.specs.Memory.{isAsked, isOffered, isServed, isMet, marked, decode, allBelow}
@@ -94,7 +93,7 @@ module _ (derive : ℕ → ℕ) (G : Given) (good : isTable derive (G .table) �
       (of-implies (idle (sessionOf derive (begun b))) _ (λ k. ap nothing (ledger-is b)))
 
   front-good : (b : Bool) → goodFront derive (begun b) ≡ true
-  unfolding goodFront readable goodNumbers sessionOf countsNothing idle
+  unfolding goodFront readable goodNumbers elem sessionOf countsNothing idle
   front-good false = and-holds good (and-holds range refl)
   front-good true = and-holds good (and-holds range refl)
 
@@ -119,9 +118,9 @@ module _ (derive : ℕ → ℕ) (G : Given) (good : isTable derive (G .table) �
 -- ---- the two starts, where they are not refused
 
 module _ (derive : ℕ → ℕ) (G : Given) where
-  -- the first step is given a good form, and not in Finish Closing
+  -- the first step is given a good form
   abbrev pub Begins : Started → Type 0
-  Begins a = (goodForm derive (begunBy a G) ≡ true) × (eqb (a .answer .next .state) CLOSING ≡ false)
+  Begins a = goodForm derive (begunBy a G) ≡ true
 
   pub receiver-begins : startReceiver derive (G .table) (G .marks) .answer .refusal ≡ 0 → Begins (startReceiver derive (G .table) (G .marks))
   unfolding startReceiver
@@ -129,7 +128,7 @@ module _ (derive : ℕ → ℕ) (G : Given) where
     where
       go : (x y : Bool) → isTable derive (G .table) ≡ x → leb 8192 (length (G .marks)) ≡ y → startReceiver derive (G .table) (G .marks) .answer .refusal ≡ 0
           → Begins (startReceiver derive (G .table) (G .marks))
-      go true true e r = rw (e, r) (λ z. (begun-good derive G e 37 0 (unfold inRange in refl) false, refl))
+      go true true e r = rw (e, r) (λ z. begun-good derive G e 37 0 (unfold inRange in refl) false)
       go true false e r = rw (e, r) (λ z. absurd (omega (arith, z)))
       go false y e r = rw e (λ z. absurd (omega (arith, z)))
 
@@ -140,7 +139,7 @@ module _ (derive : ℕ → ℕ) (G : Given) where
     where
       go : (x y w : Bool) → isTable derive (G .table) ≡ x → inRange size salt ≡ y → leb 8192 (length (G .marks)) && leb 295008 (length out) ≡ w
           → startSender derive size salt (G .table) (G .marks) out .answer .refusal ≡ 0 → Begins (startSender derive size salt (G .table) (G .marks) out)
-      go true true true e f r = rw (e, f, r) (λ z. (begun-good derive G e size salt f true, refl))
+      go true true true e f r = rw (e, f, r) (λ z. begun-good derive G e size salt f true)
       go true true false e f r = rw (e, f, r) (λ z. absurd (omega (arith, z)))
       go true false w e f r = rw (e, f) (λ z. absurd (omega (arith, z)))
       go false y w e f r = rw e (λ z. absurd (omega (arith, z)))

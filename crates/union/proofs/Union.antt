@@ -22,7 +22,7 @@ use Rattle.message.specs.Layout.{Content, offer, demand}
 use Rattle.message.specs.Writing.{pieces, piecesOf}
 use Rattle.message.proofs.PieceLaws.{pieces-whole}
 use Rattle.filter.specs.Sets.{_∪_}
-use Rattle.ledger.specs.Grid.{EXPECTING, ACTIVE, PASSIVE, FINISHED, entry}
+use Rattle.ledger.specs.Grid.{EXPECTING, ACTIVE, PASSIVE, FINISHED, placeIn, entry}
 use Rattle.ledger.specs.Session.{Session, noLedger, isComplete, oursIn, theirsIn, ownFilter, idsOf, hashOf, held, lastOne, saysDone}
 use Rattle.filter.proofs.SetLaws.{_∈_, _⊆_, not-in-nil, append-in, in-∪-l, in-∪-r, ∪-in, Asc, ∪-asc}
 use Rattle.ledger.proofs.HeldLaws.{ids-part, ids-count}
@@ -72,7 +72,7 @@ module _ (R : Rules) (A B : List ℕ) (ascA : Asc A) (ascB : Asc B) (few : lengt
 
   -- something is theirs: INQUIRY, OFFER; OFFER, DEMAND; DEMAND, ELEMENT; ELEMENT; DONE; DONE
   main-inquired : (ours : List ℕ) (x : ℕ) (xs : List ℕ) → Lists R B A ours → Lists R A B (x ∷ xs) → BothFinish R U (begins ours (x ∷ xs))
-  unfolding held _∪_ piecesOf lastOne saysDone entry
+  unfolding held _∪_ piecesOf lastOne saysDone entry placeIn
   main-inquired ours x xs lo lt =
       let theirs : List ℕ = x ∷ xs in
       let OA : List ℕ = map (hashOf (R .idOf) A) theirs in
@@ -124,7 +124,7 @@ module _ (R : Rules) (A B : List ℕ) (ascA : Asc A) (ascB : Asc B) (few : lengt
 
   -- something is ours alone: OFFER, DONE; DEMAND; ELEMENT; DONE
   main-offered : (y : ℕ) (ys : List ℕ) → Lists R B A (y ∷ ys) → Lists R A B [] → BothFinish R U (begins (y ∷ ys) [])
-  unfolding held _∪_ piecesOf entry
+  unfolding held _∪_ piecesOf entry placeIn
   main-offered y ys lo lt =
       let ours : List ℕ = y ∷ ys in
       let OB : List ℕ = map (hashOf (R .idOf) B) ours in
@@ -158,7 +158,7 @@ module _ (R : Rules) (A B : List ℕ) (ascA : Asc A) (ascB : Asc B) (few : lengt
 
   -- nothing differs: DONE; DONE
   main-same : Lists R B A [] → Lists R A B [] → BothFinish R U (begins [] [])
-  unfolding held _∪_ piecesOf entry
+  unfolding held _∪_ piecesOf entry placeIn
   main-same lo lt =
       let eS : sum B ≡ sum A = ap sum (heldB [] lt ∙ sym (heldA [] lo)) in
       let h1 = hears-done R A sa [] [] [] [] PASSIVE refl (sum B) true false [] (λ p. absurd (false≢true p)) eS in

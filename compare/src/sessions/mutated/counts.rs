@@ -1,12 +1,12 @@
 //! How many mutated calls were made, of which kind, with which answer and in which state; and how
 //! many there must have been.
 
-use super::super::counts::row;
+use super::super::counts::{row, ALL, NO_STATES};
 use super::super::memory::{Numbers, Step};
 use std::collections::BTreeMap;
 use std::time::{Duration, Instant};
 
-/// An answer must come once in so many calls.
+/// An answer must come once in so many calls, and so must a state.
 const ONCE_IN: u64 = 100_000;
 
 /// A step has no such refusal.
@@ -94,6 +94,13 @@ impl Counts {
         for (refusal, &n) in self.answers.iter().enumerate() {
             if n < least && refusal != NONE_OF_A_STEP {
                 println!("refusal {refusal}: only {n} calls, {least} are asked for");
+                enough = false;
+            }
+        }
+        for state in ALL.iter().chain(NO_STATES) {
+            let n = self.states.get(state).copied().unwrap_or(0);
+            if n < least {
+                println!("state {state}: only {n} calls, {least} are asked for");
                 enough = false;
             }
         }

@@ -9,10 +9,11 @@ use std::ops::Range;
 /// Mutates the memory for one call, or the numbers; none where nothing is changed.
 pub type Mutation = fn(&mut Random, &mut Fixture, &mut Numbers) -> Option<()>;
 
-pub const ALL: [(&str, Mutation); 15] = [
+pub const ALL: [(&str, Mutation); 16] = [
     ("ledger: a number one off", number_near),
     ("ledger: a number at a limit", number_at_limit),
     ("ledger: any number", number_any),
+    ("ledger: no state", no_state),
     ("ledger: bytes of the table", table_bytes),
     ("ledger: order of the table", table_order),
     ("ledger: a mark of the table", table_mark),
@@ -92,6 +93,12 @@ fn number_at_limit(random: &mut Random, _: &mut Fixture, numbers: &mut Numbers) 
 fn number_any(random: &mut Random, _: &mut Fixture, numbers: &mut Numbers) -> Option<()> {
     let any = random.any_length() as u32;
     put_number(random, numbers, any)
+}
+
+fn no_state(random: &mut Random, _: &mut Fixture, numbers: &mut Numbers) -> Option<()> {
+    let above = random.any_length() as u32;
+    numbers.state = random.pick(&[4, 4, 8, 9, 10, u32::MAX, above.max(11)]);
+    Some(())
 }
 
 /// A byte with one bit changed, or another one.

@@ -147,7 +147,7 @@ fn number(site: &mut Site) -> Option<Shows> {
         random, numbers, ..
     } = site;
     match random.below(8) {
-        0 => numbers.state = random.pick(&[8, u32::MAX]),
+        0 => numbers.state = random.pick(&[4, 8, u32::MAX]),
         1 => numbers.first = random.pick(&[2, u32::MAX]),
         2 => numbers.done = random.pick(&[2, u32::MAX]),
         3 => numbers.size = random.pick(&[36, 0, 4097]),

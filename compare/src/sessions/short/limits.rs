@@ -1,6 +1,6 @@
 //! Parts of ledgers near the limit of what may be held and wanted: only what is there is counted.
 
-use super::super::ledgers::{Good, ROWS};
+use super::super::ledgers::{each_row, Good};
 use super::super::memory::{Numbers, DEMANDED_MARKS};
 use super::super::mutated::fixture::{Call, Lengths};
 use super::{cut_others, Bed};
@@ -16,11 +16,11 @@ pub fn compare(tally: &mut Tally) {
     let mut random = tally.subject("parts of ledgers at the limit", 0x294);
     let random = &mut random;
     let mut given = [0; 3];
-    for (i, row) in ROWS.into_iter().cycle().take(72).enumerate() {
+    for (row, i) in each_row(2 * FEW.len()) {
         if row.0 < 2 || row == (3, 1) {
             continue;
         }
-        let [met, unmet, open] = FEW[i / 18];
+        let [met, unmet, open] = FEW[i / 2];
         let over = random.pick(&[1, 1, 2, 3]);
         let table = MOST_HASHES - met - unmet - open;
         let mut bed = Bed::new(random, row, [table, met, unmet, open + over]);

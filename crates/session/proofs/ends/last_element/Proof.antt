@@ -1,12 +1,18 @@
--- `ends::last_element` meets its contract: each way through it is a branch of the gain. Assumes nothing.
-use mathlib.Core.Path.{sym, ap, _∙_}
-use mathlib.Core.Bool.{Bool, not, _&&_}
+-- `session::ends::last_element` meets its contract: each return leaves what the step on an ELEMENT does. Assumes nothing.
+use mathlib.Core.Path.{sym, _∙_}
+use mathlib.Core.Logic.{⊎-elim}
 use Prim.Native.Nat.{_*_}
 use native.Mathlib.Omega.{arith}
+use lib.Bits.{bitXor}
+use lib.ListN.{take}
 use lib.Seq.{length-take-le}
 use borrow.Author.Needs.{needs}
-use Rattle.ledger.specs.Calls.{answered}
-use Rattle.session.proofs.ElementSteps.{check-added, gain-differs, gain-ends, gain-sends}
+use Rattle.bucket.specs.Digits.{joined}
+use Rattle.bucket.proofs.TestLaws.{cond-made, cond-kept}
+use Rattle.ledger.specs.Calls.{given}
+use Rattle.session.specs.Ready.{Sum}
+use Rattle.session.proofs.CheckBytes.{checkIn, check-made}
+use Rattle.session.proofs.ElementLaws.{last-differs, last-sends}
 use Rattle.session.proofs.ends.last_element.Statement.{statement}
 use Rattle.session.proofs.ends.last_element.Tie as tie
 
@@ -15,58 +21,49 @@ slice-aggregate-checksum c =
     let s = c .before .before .before .before .before .before .before in
     sym (length-take-le (64 * s .args .numbers .demanded) (s .args .records .now) (omega arith))
 
-slice-aggregate-same-hash : tie.Need-slice-aggregate-same-hash
-slice-aggregate-same-hash c =
-    let a = c .before .before .before .before .before .before .before .before .before .before .before .before .args in
-    sym ((check-added (a .numbers) (a .table .now) (a .records .now) (a .hash .now) (a .marks .now) (c .before .before .before .checksum .ensures) (c .before .xor-into .ensures)) .size)
+-- the checksum with the element
+sum : (c : tie.After-xor-into) → let a = (c .before .before .before .before .before .before .before .before .before .before .before) .args in
+    Sum (bitXor (checkIn (a .table .now) (a .numbers .demanded) (a .records .now) (a .marks .now)) (joined 8 (take 64 (a .hash .now)))) (c .xor-into .last .0)
+sum c =
+    let summed = c .before .before in
+    let a = (summed .before .before .before .before .before .before .before .before .before) .args in
+    c .xor-into .ensures (checkIn (a .table .now) (a .numbers .demanded) (a .records .now) (a .marks .now))
+    (check-made (a .table .now) (a .numbers .demanded) (a .records .now) (a .marks .now) (summed .checksum .result) (summed .checksum .ensures))
 
 same-hash-requires : tie.Need-same-hash-requires
 same-hash-requires c κs =
-    let a = c .before .before .before .before .before .before .before .before .before .before .before .before .args in
-    (c .before .before .before .before .before .before .before .before .before .before .before .before .pre .1, omega (arith, (check-added (a .numbers) (a .table .now) (a .records .now) (a .hash .now) (a .marks .now) (c .before .before .before .checksum .ensures) (c .before .xor-into .ensures)) .size))
+    ((c .before .before .before .before .before .before .before .before .before .before .before .before) .pre .1, omega (arith, sum (c .before) .size))
 
 returns : tie.Need-returns
-returns c =
-    let a = c .before .before .before .before .before .before .before .before .before .before .before .before .before .before .before .args in
-    gain-differs (a .numbers) (a .table .now) (a .records .now) (a .hash .now) (a .closing) (a .sends) (a .p) (a .marks .now) (a .out .now) (check-added (a .numbers) (a .table .now) (a .records .now) (a .hash .now) (a .marks .now) (c .before .before .before .before .before .before .checksum .ensures) (c .before .before .before .before .xor-into .ensures))
-    (ap (λ (b : Bool). a .closing && not b) (sym (c .before .before .same-hash .ensures)) ∙ c .before .if1 .taken) (c .aborted .ensures)
-
-returns-2 : tie.Need-returns-2
-returns-2 c =
-    let a = c .before .before .before .before .before .before .before .before .before .before .before .before .before .before .before .before .before .args in
-    gain-ends (a .numbers) (a .table .now) (a .records .now) (a .hash .now) (a .closing) (a .sends) (a .p) (a .marks .now) (a .out .now) (check-added (a .numbers) (a .table .now) (a .records .now) (a .hash .now) (a .marks .now) (c .before .before .before .before .before .before .before .before .checksum .ensures) (c .before .before .before .before .before .before .xor-into .ensures))
-    (ap (λ (b : Bool). a .closing && not b) (sym (c .before .before .before .before .same-hash .ensures)) ∙ c .before .before .before .if1 .left)
-    (c .before .before .before .before .before .before .before .before .before .before .before .before .before .before .before .before .before .pre .6) (c .before .before .if2 .taken) (c .answered .ensures ∙ ap (answered 0 0 0) (c .before .closed .ensures))
-
-slice-aggregate-send-done : tie.Need-slice-aggregate-send-done
-slice-aggregate-send-done c =
-    let a = c .before .before .before .before .before .before .before .before .before .before .before .before .before .before .before .before .args in
-    sym ((check-added (a .numbers) (a .table .now) (a .records .now) (a .hash .now) (a .marks .now) (c .before .before .before .before .before .before .before .checksum .ensures) (c .before .before .before .before .before .xor-into .ensures)) .size)
+returns c = λ I message ours theirs bytes cols s timely u at ends says.
+    let added = c .before .before .before .before in
+    let a = (added .before .before .before .before .before .before .before .before .before .before .before) .args in
+    let G = given (a .numbers) (a .table .now) (a .records .now) (a .marks .now) I cols ours theirs (a .hash .now) message (a .out .now) in
+    last-differs G s timely bytes u ends (added .xor-into .last .0) (sum added) (c .before .before .same-hash .ensures)
+    (c .before .if1 .taken) (c .aborted .ensures)
 
 send-done-requires : tie.Need-send-done-requires
 send-done-requires c κs =
-    let a = c .before .before .before .before .before .before .before .before .before .before .before .before .before .before .before .before .before .args in
-    (omega (arith, (check-added (a .numbers) (a .table .now) (a .records .now) (a .hash .now) (a .marks .now) (c .before .before .before .before .before .before .before .before .checksum .ensures) (c .before .before .before .before .before .before .xor-into .ensures)) .size), omega (arith, c .before .before .before .before .before .before .before .before .before .before .before .before .before .before .before .before .before .pre .4))
+    let added = c .before .before .before .before .before in
+    let s = added .before .before .before .before .before .before .before .before .before .before .before in
+    (omega (arith, sum added .size), omega (arith, s .pre .4))
 
-returns-3 : tie.Need-returns-3
-returns-3 c =
-    let a = c .before .before .before .before .before .before .before .before .before .before .before .before .before .before .before .before .before .before .before .before .before .before .before .args in
-    gain-sends (a .numbers) (a .table .now) (a .records .now) (a .hash .now) (a .closing) (a .sends) (a .p) (a .marks .now) (a .out .now) (check-added (a .numbers) (a .table .now) (a .records .now) (a .hash .now) (a .marks .now) (c .before .before .before .before .before .before .before .before .before .before .before .before .before .before .checksum .ensures) (c .before .before .before .before .before .before .before .before .before .before .before .before .xor-into .ensures))
-    (ap (λ (b : Bool). a .closing && not b) (sym (c .before .before .before .before .before .before .before .before .before .before .same-hash .ensures)) ∙ c .before .before .before .before .before .before .before .before .before .if1 .left)
-    (c .before .before .before .before .before .before .before .before .if2 .left) (c .before .before .if3 .taken) (c .answered2 .ensures ∙ ap (answered 0 (c .before .before .before .before .before .send-done .result) 0) (c .before .closed2 .ensures)) (c .before .before .before .before .before .send-done .ensures .0) (c .before .before .before .before .before .send-done .ensures .1)
-
-returns-4 : tie.Need-returns-4
-returns-4 c =
-    let a = c .before .before .before .before .before .before .before .before .before .before .before .before .before .before .before .before .before .before .before .before .before .before .before .args in
-    gain-sends (a .numbers) (a .table .now) (a .records .now) (a .hash .now) (a .closing) (a .sends) (a .p) (a .marks .now) (a .out .now) (check-added (a .numbers) (a .table .now) (a .records .now) (a .hash .now) (a .marks .now) (c .before .before .before .before .before .before .before .before .before .before .before .before .before .before .checksum .ensures) (c .before .before .before .before .before .before .before .before .before .before .before .before .xor-into .ensures))
-    (ap (λ (b : Bool). a .closing && not b) (sym (c .before .before .before .before .before .before .before .before .before .before .same-hash .ensures)) ∙ c .before .before .before .before .before .before .before .before .before .if1 .left)
-    (c .before .before .before .before .before .before .before .before .if2 .left) (c .before .before .if3 .left) (c .answered3 .ensures ∙ ap (answered 0 (c .before .before .before .before .before .send-done .result) 0) (c .before .closed3 .ensures)) (c .before .before .before .before .before .send-done .ensures .0) (c .before .before .before .before .before .send-done .ensures .1)
+returns-2 : tie.Need-returns-2
+returns-2 c = λ I message ours theirs bytes cols s timely u at ends says.
+    let sent = c .before .before .before .before in
+    let compared = sent .before .before .before in
+    let added = compared .before .before .before in
+    let a = (added .before .before .before .before .before .before .before .before .before .before .before) .args in
+    let G = given (a .numbers) (a .table .now) (a .records .now) (a .marks .now) I cols ours theirs (a .hash .now) message (a .out .now) in
+    let next = ⊎-elim (λ w. w .1 ∙ cond-made 6 (a .numbers .state) (w .0 .taken)) (λ w. w .1 ∙ cond-kept 6 (a .numbers .state) (w .0 .left)) (c .before .if2 .came) in
+    last-sends G s timely bytes u ends (added .xor-into .last .0) (sum added) (compared .before .same-hash .ensures) (compared .if1 .left) at says
+    (sent .send-done .ensures) next (c .changed .ensures)
 
 pub last-element-spec : {M : Type 1} → statement M
 last-element-spec =
     tie.close
     (tie.spec
-    (λ c. search needs) (λ c. search needs) slice-aggregate-checksum (λ c κs. search needs) (λ c κs. search needs) slice-aggregate-same-hash
-    same-hash-requires (λ c κs. search needs) (λ c. search needs) returns (λ c. search needs) (λ c κs. search needs) (λ c κs. search needs)
-    (λ c. search needs) returns-2 slice-aggregate-send-done send-done-requires (λ c κs. search needs) (λ c κs. search needs) (λ c. search needs)
-    (λ c. search needs) returns-3 (λ c κs. search needs) (λ c κs. search needs) (λ c. search needs) (λ c. search needs) returns-4)
+    (λ c. search needs) (λ c. search needs) slice-aggregate-checksum (λ c κs. search needs) (λ c κs. search needs)
+    (λ c. sym (sum (c .before) .size)) same-hash-requires (λ c κs. search needs) (λ c. search needs) returns
+    (λ c. search needs) (λ c. sym (sum (c .before .before .before .before) .size)) send-done-requires
+    (λ c κs. search needs) (λ c. search needs) (λ c. search needs) returns-2)

@@ -33,7 +33,7 @@ returns-3 c =
     let a = s .args in
     ap₂ sliceTurn′
     (c .answered .ensures ∙ ap (answered 0 0 0) (c .before .sliced .ensures))
-    (laid-by (s .pre .1) (c .before .before .before .before .before .before .before .lay .ensures))
+    (laid-by (s .pre) (c .before .before .before .before .before .before .before .lay .ensures))
     ∙ slice-laid (a .numbers) (content (exactlyOne (a .message .now)) (a .message .now)) (a .size) (a .offset) (a .salt) (a .width) (columns (a .ids .now) (a .hashes .now) (a .counts .now))
     (test-granted (c .before .before .before .before .before .before .before .before .before .before .before .before .before .before .admits-slice .ensures) (c .before .before .before .before .before .before .before .before .before .before .before .before .before .if1 .left)) (test-granted (c .before .before .before .before .before .before .before .before .before .before .before .before .is-placed .ensures) (c .before .before .before .before .before .before .before .before .before .before .before .if2 .left))
 

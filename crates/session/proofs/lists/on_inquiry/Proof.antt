@@ -10,7 +10,7 @@ use borrow.Author.Needs.{needs}
 use Rattle.bucket.specs.Digits.{unpacked}
 use Rattle.bucket.specs.Lists.{part}
 use Rattle.bucket.proofs.TestLaws.{test-refused, test-granted}
-use Rattle.session.proofs.InquirySteps.{Inquired, inquired, inquiry-untimely, inquiry-salted, inquiry-bad, inquiry-taken}
+use Rattle.session.proofs.InquirySteps.{Inquired, inquired, inquiry-salted, inquiry-bad, inquiry-taken}
 use Rattle.session.proofs.lists.on_inquiry.Statement.{statement}
 use Rattle.session.proofs.lists.on_inquiry.Tie as tie
 
@@ -18,11 +18,11 @@ use Rattle.session.proofs.lists.on_inquiry.Tie as tie
 abbrev Behind : Type 0
 Behind = tie.After-ask-all
 
-went : (c : Behind) → let a = c .before .before .before .before .before .before .before .before .before .before .before .before .before .before .before .before .before .before .args in
+went : (c : Behind) → let a = c .before .before .before .before .before .before .before .before .before .before .before .before .before .before .before .before .args in
     Inquired (a .table .now) (take (64 * a .numbers .demanded) (a .records .now)) (unpacked 64 (a .n) (part 8 (8 * a .n) (a .message .now))) (a .marks .now)
     (c .ask-all .result .fine) (c .ask-all .result .count) (c .ask-all .last .1 .1 .0) (c .ask-all .last .1 .1 .1 .1 .1 .0)
 went c =
-    let s = c .before .before .before .before .before .before .before .before .before .before .before .before .before .before .before .before .before .before in
+    let s = c .before .before .before .before .before .before .before .before .before .before .before .before .before .before .before .before in
     let a = s .args in
     inquired (a .table .now) (take (64 * a .numbers .demanded) (a .records .now)) (unpacked 64 (a .n) (part 8 (8 * a .n) (a .message .now))) (a .marks .now) _
     (s .pre .0 .marks-room) refl refl (c .before .before .before .before .before .copy .ensures) (c .ask-all .ensures)
@@ -38,66 +38,57 @@ cut c e = length-take-le (64 * c .ask-all .result .count) (c .ask-all .last .1 .
 returns : tie.Need-returns
 returns c =
     let a = c .before .before .before .before .before .before .before .before .args in
-    inquiry-untimely (a .numbers) (a .table .now) (take (64 * a .numbers .demanded) (a .records .now)) (a .salt) (unpacked 64 (a .n) (part 8 (8 * a .n) (a .message .now))) (a .marks .now) (a .out .now)
-    (test-refused (c .before .before .admits .ensures) (c .before .if1 .taken)) (c .aborted .ensures)
-
-returns-2 : tie.Need-returns-2
-returns-2 c =
-    let a = c .before .before .before .before .before .before .before .before .before .before .args in
     inquiry-salted (a .numbers) (a .table .now) (take (64 * a .numbers .demanded) (a .records .now)) (a .salt) (unpacked 64 (a .n) (part 8 (8 * a .n) (a .message .now))) (a .marks .now) (a .out .now)
-    (test-granted (c .before .before .before .before .admits .ensures) (c .before .before .before .if1 .left)) (c .before .if2 .taken) (c .aborted2 .ensures)
+    (c .before .if1 .taken) (c .aborted .ensures)
 
 slice-aggregate-ask-all : tie.Need-slice-aggregate-ask-all
 slice-aggregate-ask-all c =
-    let s = c .before .before .before .before .before .before .before .before .before .before .before .before .before .before .before in
+    let s = c .before .before .before .before .before .before .before .before .before .before .before .before .before in
     sym (length-take-le (64 * s .args .numbers .demanded) (s .args .records .now) (s .pre .1))
 
 ask-all-requires : tie.Need-ask-all-requires
 ask-all-requires c κs =
-    let s = c .before .before .before .before .before .before .before .before .before .before .before .before .before .before .before .before .before in
-    (record { table-good = s .pre .0 .table-good; known-good = s .pre .0 .known-good; marks-room = omega arith }, s .pre .4, omega arith)
+    let s = c .before .before .before .before .before .before .before .before .before .before .before .before .before .before .before in
+    (record { table-good = s .pre .0 .table-good; known-good = s .pre .0 .known-good; marks-room = omega arith }, s .pre .3, omega arith)
 
-returns-3 : tie.Need-returns-3
-returns-3 c =
+returns-2 : tie.Need-returns-2
+returns-2 c =
     let asked = c .before .before .before .before .before in
-    let a = asked .before .before .before .before .before .before .before .before .before .before .before .before .before .before .before .before .before .before .args in
+    let a = asked .before .before .before .before .before .before .before .before .before .before .before .before .before .before .before .before .args in
     inquiry-bad (a .numbers) (a .table .now) (take (64 * a .numbers .demanded) (a .records .now)) (a .salt) (unpacked 64 (a .n) (part 8 (8 * a .n) (a .message .now))) (a .marks .now) (a .out .now)
-    (test-granted (asked .before .before .before .before .before .before .before .before .before .before .before .before .admits .ensures) (asked .before .before .before .before .before .before .before .before .before .before .before .if1 .left)) (asked .before .before .before .before .before .before .before .before .before .if2 .left)
-    (went asked) (test-refused refl (c .before .if3 .taken)) (c .aborted3 .ensures)
+    (asked .before .before .before .before .before .before .before .before .before .if1 .left) (went asked) (test-refused refl (c .before .if2 .taken)) (c .aborted2 .ensures)
 
 copy-requires-2 : tie.Need-copy-requires-2
-copy-requires-2 c κs = (omega (arith, went (c .before .before .before .before .before .before) .long (test-granted refl (c .before .before .if3 .left))), c .before .before .before .before .before .before .before .before .before .before .before .before .before .before .before .before .before .before .before .before .before .before .before .before .pre .0 .marks-room)
+copy-requires-2 c κs = (omega (arith, went (c .before .before .before .before .before .before) .long (test-granted refl (c .before .before .if2 .left))), c .before .before .before .before .before .before .before .before .before .before .before .before .before .before .before .before .before .before .before .before .before .before .pre .0 .marks-room)
 
 mul-to : tie.Need-mul-to
-mul-to c = omega (arith, went (c .before .before .before .before .before .before .before .before .before .before) .few (test-granted refl (c .before .before .before .before .before .before .if3 .left)))
+mul-to c = omega (arith, went (c .before .before .before .before .before .before .before .before .before .before) .few (test-granted refl (c .before .before .before .before .before .before .if2 .left)))
 
 array-share-prefix-hashes : tie.Need-array-share-prefix-hashes
-array-share-prefix-hashes c = within (c .before .before .before .before .before .before .before .before .before .before) (c .before .before .before .before .before .before .if3 .left)
+array-share-prefix-hashes c = within (c .before .before .before .before .before .before .before .before .before .before) (c .before .before .before .before .before .before .if2 .left)
 
 slice-aggregate-send-offers : tie.Need-slice-aggregate-send-offers
-slice-aggregate-send-offers c = sym (cut (c .before .before .before .before .before .before .before .before .before .before .before) (c .before .before .before .before .before .before .before .if3 .left))
+slice-aggregate-send-offers c = sym (cut (c .before .before .before .before .before .before .before .before .before .before .before) (c .before .before .before .before .before .before .before .if2 .left))
 
 send-offers-requires : tie.Need-send-offers-requires
 send-offers-requires c κs =
-    (omega (arith, cut (c .before .before .before .before .before .before .before .before .before .before .before .before) (c .before .before .before .before .before .before .before .before .if3 .left)), omega (arith, went (c .before .before .before .before .before .before .before .before .before .before .before .before) .room (test-granted refl (c .before .before .before .before .before .before .before .before .if3 .left)), c .before .before .before .before .before .before .before .before .before .before .before .before .before .before .before .before .before .before .before .before .before .before .before .before .before .before .before .before .before .before .pre .5))
+    let asked = c .before .before .before .before .before .before .before .before .before .before .before .before in
+    let fine = c .before .before .before .before .before .before .before .before .if2 .left in
+    (omega (arith, cut asked fine), omega (arith, went asked .room (test-granted refl fine), asked .before .before .before .before .before .before .before .before .before .before .before .before .before .before .before .before .pre .4))
 
-returns-4 : tie.Need-returns-4
-returns-4 c =
-    let sent = c .before .before .before .before in
-    let copied = sent .before .before .before .before .before .before in
+returns-3 : tie.Need-returns-3
+returns-3 c =
+    let copied = c .before .before .before .before .before .before .before .before .before in
     let asked = copied .before .before .before .before .before .before .before in
-    let a = asked .before .before .before .before .before .before .before .before .before .before .before .before .before .before .before .before .before .before .args in
+    let a = asked .before .before .before .before .before .before .before .before .before .before .before .before .before .before .before .before .args in
     inquiry-taken (a .numbers) (a .table .now) (take (64 * a .numbers .demanded) (a .records .now)) (a .salt) (unpacked 64 (a .n) (part 8 (8 * a .n) (a .message .now))) (a .marks .now) (a .out .now)
-    (test-granted (asked .before .before .before .before .before .before .before .before .before .before .before .before .admits .ensures) (asked .before .before .before .before .before .before .before .before .before .before .before .if1 .left)) (asked .before .before .before .before .before .before .before .before .before .if2 .left)
-    (went asked) (test-granted refl (copied .before .before .before .if3 .left))
-    (c .answered .ensures) (c .before .onward .ensures) (copied .copy2 .ensures) (sent .send-offers .ensures)
+    (asked .before .before .before .before .before .before .before .before .before .if1 .left) (went asked) (test-granted refl (copied .before .before .before .if2 .left)) (c .changed .ensures) (copied .copy2 .ensures) (c .before .before .before .send-offers .ensures)
 
 pub on-inquiry-spec : {M : Type 1} → statement M
 on-inquiry-spec =
     tie.close
     (tie.spec
-    (λ c κs. search needs) (λ c κs. search needs) returns (λ c κs. search needs) returns-2 (λ c. search needs) (λ c. search needs)
-    (λ c. search needs) (λ c κs. search needs) slice-aggregate-ask-all (λ c. search needs) (λ c. search needs) ask-all-requires
-    (λ c κs. search needs) (λ c. search needs) returns-3 (λ c. search needs) copy-requires-2 mul-to array-share-prefix-hashes
-    slice-aggregate-send-offers send-offers-requires (λ c κs. search needs) (λ c κs. search needs) (λ c. search needs) (λ c. search needs)
-    returns-4)
+    (λ c κs. search needs) returns (λ c. search needs) (λ c. search needs) (λ c. search needs) (λ c κs. search needs) slice-aggregate-ask-all
+    (λ c. search needs) (λ c. search needs) ask-all-requires (λ c κs. search needs) (λ c. search needs) returns-2 (λ c. search needs)
+    copy-requires-2 mul-to array-share-prefix-hashes slice-aggregate-send-offers send-offers-requires (λ c κs. search needs)
+    (λ c. search needs) (λ c. search needs) returns-3)

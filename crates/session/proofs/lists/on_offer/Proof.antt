@@ -13,7 +13,7 @@ use Rattle.bucket.proofs.TestLaws.{test-refused, test-granted}
 use Rattle.ledger.specs.Grid.{ACTIVE}
 use Rattle.session.proofs.SaidLaws.{items-short}
 use Rattle.form.proofs.StartLaws.{rooms-there}
-use Rattle.session.proofs.OfferSteps.{Found, found, offer-untimely, offer-bad, offer-over, offer-taken}
+use Rattle.session.proofs.OfferSteps.{Found, found, offer-bad, offer-over, offer-taken}
 use Rattle.session.proofs.lists.on_offer.Statement.{statement}
 use Rattle.session.proofs.lists.on_offer.Tie as tie
 
@@ -22,7 +22,7 @@ abbrev Behind : Type 0
 Behind = tie.After-new-all
 
 few : (c : Behind) → c .new-all .result .count ≤ 1023
-few c = omega (arith, c .new-all .ensures .1, c .before .before .before .before .before .before .before .before .before .before .before .before .before .before .before .pre .8)
+few c = omega (arith, c .new-all .ensures .1, c .before .before .before .before .before .before .before .before .before .before .before .before .before .pre .7)
 
 -- the hashes gathered lie in their room
 within : (c : Behind) → 64 * c .new-all .result .count ≤ length (c .new-all .last .1 .1 .1 .1 .1 .1 .1 .1 .0)
@@ -31,62 +31,50 @@ within c = omega (arith, few c, c .new-all .kept .1 .1 .1 .1 .1 .1 .1 .1 .0)
 cut : (c : Behind) → length (take (64 * c .new-all .result .count) (c .new-all .last .1 .1 .1 .1 .1 .1 .1 .1 .0)) ≡ 64 * c .new-all .result .count
 cut c = length-take-le (64 * c .new-all .result .count) (c .new-all .last .1 .1 .1 .1 .1 .1 .1 .1 .0) (within c)
 
-went : (c : Behind) → let a = c .before .before .before .before .before .before .before .before .before .before .before .before .before .before .before .args in
+went : (c : Behind) → let a = c .before .before .before .before .before .before .before .before .before .before .before .before .before .args in
     Found (a .table .now) (take (64 * a .numbers .demanded) (a .records .now)) (take (a .numbers .inquired) (a .inquired .now)) (eqb (a .numbers .state) ACTIVE)
     (unpacked 512 (a .n) (part 4 (64 * a .n) (a .message .now))) (c .new-all .result .fine) (c .new-all .result .count) (c .new-all .last .1 .1 .1 .1 .1 .1 .1 .1 .0)
 went c =
-    let a = c .before .before .before .before .before .before .before .before .before .before .before .before .before .before .before .args in
+    let a = c .before .before .before .before .before .before .before .before .before .before .before .before .before .args in
     found (a .table .now) (take (64 * a .numbers .demanded) (a .records .now)) (take (a .numbers .inquired) (a .inquired .now)) (eqb (a .numbers .state) ACTIVE)
     (unpacked 512 (a .n) (part 4 (64 * a .n) (a .message .now))) (items-short (a .n) (part 4 (64 * a .n) (a .message .now))) refl (few c) (c .new-all .ensures .0)
 
-returns : tie.Need-returns
-returns c =
-    let a = c .before .before .before .before .before .before .before .before .before .args in
-    offer-untimely (a .numbers) (a .table .now) (take (64 * a .numbers .demanded) (a .records .now)) (take (a .numbers .inquired) (a .inquired .now)) (unpacked 512 (a .n) (part 4 (64 * a .n) (a .message .now)))
-    (a .concerned) (a .records .now) (a .marks .now) (a .out .now)
-    (test-refused (c .before .before .admits .ensures) (c .before .if1 .taken)) (c .aborted .ensures)
-
 slice-aggregate-new-all : tie.Need-slice-aggregate-new-all
 slice-aggregate-new-all c =
-    let s = c .before .before .before .before .before .before .before .before .before .before .before .before in
+    let s = c .before .before .before .before .before .before .before .before .before .before in
     sym (length-take-le (64 * s .args .numbers .demanded) (s .args .records .now) (omega (arith, s .pre .1, s .pre .2)))
 
 new-all-requires : tie.Need-new-all-requires
 new-all-requires c κs =
-    let s = c .before .before .before .before .before .before .before .before .before .before .before .before .before .before in
-    (s .pre .0 .table-good, s .pre .0 .known-good, s .pre .4, s .pre .5, s .pre .7, s .pre .8, omega arith, omega arith)
+    let s = c .before .before .before .before .before .before .before .before .before .before .before .before in
+    (s .pre .0 .table-good, s .pre .0 .known-good, s .pre .3, s .pre .4, s .pre .6, s .pre .7, omega arith, omega arith)
+
+returns : tie.Need-returns
+returns c =
+    let found = c .before .before .before .before .before in
+    let a = found .before .before .before .before .before .before .before .before .before .before .before .before .before .args in
+    offer-bad (a .numbers) (a .table .now) (take (64 * a .numbers .demanded) (a .records .now)) (take (a .numbers .inquired) (a .inquired .now)) (unpacked 512 (a .n) (part 4 (64 * a .n) (a .message .now)))
+    (a .concerned) (a .records .now) (a .marks .now) (a .out .now) (went found) (test-refused refl (c .before .if1 .taken)) (c .aborted .ensures)
+
+add-if2 : tie.Need-add-if2
+add-if2 c = omega (arith, c .count-extra .ensures .1, few (c .before .before .before .before .before .before), c .before .before .before .before .before .before .before .before .before .before .before .before .before .before .before .before .before .before .before .pre .5)
+
+add-if2-2 : tie.Need-add-if2-2
+add-if2-2 c = omega (arith, few (c .before .before .before .before .before .before), c .before .before .before .before .before .before .before .before .before .before .before .before .before .before .before .before .before .before .before .pre .2)
 
 returns-2 : tie.Need-returns-2
 returns-2 c =
-    let found = c .before .before .before .before .before in
-    let a = found .before .before .before .before .before .before .before .before .before .before .before .before .before .before .before .args in
-    offer-bad (a .numbers) (a .table .now) (take (64 * a .numbers .demanded) (a .records .now)) (take (a .numbers .inquired) (a .inquired .now)) (unpacked 512 (a .n) (part 4 (64 * a .n) (a .message .now)))
-    (a .concerned) (a .records .now) (a .marks .now) (a .out .now)
-    (test-granted (found .before .before .before .before .before .before .before .before .admits .ensures) (found .before .before .before .before .before .before .before .if1 .left)) (went found) (test-refused refl (c .before .if2 .taken)) (c .aborted2 .ensures)
-
-count-extra-requires : tie.Need-count-extra-requires
-count-extra-requires c κs = (within (c .before .before .before .before .before), few (c .before .before .before .before .before), c .before .before .before .before .before .before .before .before .before .before .before .before .before .before .before .before .before .before .before .before .pre .4, c .before .before .before .before .before .before .before .before .before .before .before .before .before .before .before .before .before .before .before .before .pre .5)
-
-add-if3 : tie.Need-add-if3
-add-if3 c = omega (arith, c .count-extra .ensures .1, few (c .before .before .before .before .before .before), c .before .before .before .before .before .before .before .before .before .before .before .before .before .before .before .before .before .before .before .before .before .pre .6)
-
-add-if3-2 : tie.Need-add-if3-2
-add-if3-2 c = omega (arith, few (c .before .before .before .before .before .before), c .before .before .before .before .before .before .before .before .before .before .before .before .before .before .before .before .before .before .before .before .before .pre .2)
-
-returns-3 : tie.Need-returns-3
-returns-3 c =
     let found = c .before .before .before .before .before .before .before .before in
-    let a = found .before .before .before .before .before .before .before .before .before .before .before .before .before .before .before .args in
+    let a = found .before .before .before .before .before .before .before .before .before .before .before .before .before .args in
     offer-over (a .numbers) (a .table .now) (take (64 * a .numbers .demanded) (a .records .now)) (take (a .numbers .inquired) (a .inquired .now)) (unpacked 512 (a .n) (part 4 (64 * a .n) (a .message .now)))
-    (a .concerned) (a .records .now) (a .marks .now) (a .out .now)
-    (test-granted (found .before .before .before .before .before .before .before .before .admits .ensures) (found .before .before .before .before .before .before .before .if1 .left)) (went found) (test-granted refl (c .before .before .before .before .if2 .left))
-    (c .before .before .count-extra .ensures .0) (c .before .if3 .taken) (c .aborted3 .ensures)
+    (a .concerned) (a .records .now) (a .marks .now) (a .out .now) (went found) (test-granted refl (c .before .before .before .before .if1 .left))
+    (c .before .before .count-extra .ensures .0) (c .before .if2 .taken) (c .aborted2 .ensures)
 
 store-all-requires : tie.Need-store-all-requires
 store-all-requires c κs =
-    let s = c .before .before .before .before .before .before .before .before .before .before .before .before .before .before .before .before .before .before .before .before .before .before .before .before .before in
-    let counted = c .before .before .before .before .count-extra in
-    (s .pre .1, s .pre .0 .marks-room, rooms-there (s .args .concerned + counted .result) (s .args .numbers .demanded + c .before .before .before .before .before .before .before .before .before .before .new-all .result .count) 4096 4096 (c .before .before .before .if3 .left) .1, within (c .before .before .before .before .before .before .before .before .before .before))
+    let found = c .before .before .before .before .before .before .before .before .before .before in
+    let s = found .before .before .before .before .before .before .before .before .before .before .before .before .before in
+    (s .pre .1, s .pre .0 .marks-room, rooms-there (s .args .concerned + c .before .before .before .before .count-extra .result) (s .args .numbers .demanded + found .new-all .result .count) 4096 4096 (c .before .before .before .if2 .left) .1, within found)
 
 mul-to : tie.Need-mul-to
 mul-to c = omega (arith, few (c .before .before .before .before .before .before .before .before .before .before .before .before .before .before .before))
@@ -99,32 +87,30 @@ slice-aggregate-send-demands c = sym (cut (c .before .before .before .before .be
 
 send-demands-requires : tie.Need-send-demands-requires
 send-demands-requires c κs =
-    (omega (arith, cut (c .before .before .before .before .before .before .before .before .before .before .before .before .before .before .before .before .before)), omega (arith, went (c .before .before .before .before .before .before .before .before .before .before .before .before .before .before .before .before .before) .room (test-granted refl (c .before .before .before .before .before .before .before .before .before .before .before .before .before .if2 .left)), c .before .before .before .before .before .before .before .before .before .before .before .before .before .before .before .before .before .before .before .before .before .before .before .before .before .before .before .before .before .before .before .before .pre .9))
+    let found = c .before .before .before .before .before .before .before .before .before .before .before .before .before .before .before .before .before in
+    (omega (arith, cut found), omega (arith, went found .room (test-granted refl (c .before .before .before .before .before .before .before .before .before .before .before .before .before .if1 .left)), found .before .before .before .before .before .before .before .before .before .before .before .before .before .pre .8))
 
-add-with-demanded : tie.Need-add-with-demanded
-add-with-demanded c = omega (arith, few (c .before .before .before .before .before .before .before .before .before .before .before .before .before .before .before .before .before .before .before .before), c .before .before .before .before .before .before .before .before .before .before .before .before .before .before .before .before .before .before .before .before .before .before .before .before .before .before .before .before .before .before .before .before .before .before .before .pre .2)
+add-now : tie.Need-add-now
+add-now c = omega (arith, few (c .before .before .before .before .before .before .before .before .before .before .before .before .before .before .before .before .before .before .before .before), c .before .before .before .before .before .before .before .before .before .before .before .before .before .before .before .before .before .before .before .before .before .before .before .before .before .before .before .before .before .before .before .before .before .pre .2)
 
-cast-with-demanded : tie.Need-cast-with-demanded
-cast-with-demanded c = omega (arith, few (c .before .before .before .before .before .before .before .before .before .before .before .before .before .before .before .before .before .before .before .before), c .before .before .before .before .before .before .before .before .before .before .before .before .before .before .before .before .before .before .before .before .before .before .before .before .before .before .before .before .before .before .before .before .before .before .before .pre .2)
+cast-now : tie.Need-cast-now
+cast-now c = omega (arith, few (c .before .before .before .before .before .before .before .before .before .before .before .before .before .before .before .before .before .before .before .before), c .before .before .before .before .before .before .before .before .before .before .before .before .before .before .before .before .before .before .before .before .before .before .before .before .before .before .before .before .before .before .before .before .before .pre .2)
 
-returns-4 : tie.Need-returns-4
-returns-4 c =
-    let sent = c .before .before .before .before in
-    let kept = sent .before .before .before .before .before .before .before in
+returns-3 : tie.Need-returns-3
+returns-3 c =
+    let kept = c .before .before .before .before .before .before .before .before .before .before in
     let found = kept .before .before .before .before .before .before .before .before .before .before .before in
-    let a = found .before .before .before .before .before .before .before .before .before .before .before .before .before .before .before .args in
+    let a = found .before .before .before .before .before .before .before .before .before .before .before .before .before .args in
     offer-taken (a .numbers) (a .table .now) (take (64 * a .numbers .demanded) (a .records .now)) (take (a .numbers .inquired) (a .inquired .now)) (unpacked 512 (a .n) (part 4 (64 * a .n) (a .message .now)))
-    (a .concerned) (a .records .now) (a .marks .now) (a .out .now)
-    (test-granted (found .before .before .before .before .before .before .before .before .admits .ensures) (found .before .before .before .before .before .before .before .if1 .left)) (went found) (test-granted refl (kept .before .before .before .before .before .before .before .if2 .left))
-    (kept .before .before .before .before .before .count-extra .ensures .0) (kept .before .before .before .before .if3 .left)
-    (c .answered .ensures) (c .before .with-demanded .ensures) (kept .store-all .ensures) (sent .send-demands .ensures)
+    (a .concerned) (a .records .now) (a .marks .now) (a .out .now) (went found) (test-granted refl (kept .before .before .before .before .before .before .before .if1 .left))
+    (kept .before .before .before .before .before .count-extra .ensures .0) (kept .before .before .before .before .if2 .left) (c .changed .ensures) (kept .store-all .ensures) (c .before .before .before .send-demands .ensures)
 
 pub on-offer-spec : {M : Type 1} → statement M
 on-offer-spec =
     tie.close
     (tie.spec
-    (λ c κs. search needs) (λ c κs. search needs) returns (λ c. search needs) (λ c. search needs) (λ c. search needs) (λ c. search needs)
-    slice-aggregate-new-all (λ c. search needs) (λ c. search needs) new-all-requires (λ c κs. search needs) (λ c. search needs) returns-2
-    (λ c. search needs) count-extra-requires add-if3 add-if3-2 (λ c κs. search needs) (λ c. search needs) returns-3 (λ c. search needs)
-    store-all-requires mul-to array-share-prefix-hashes slice-aggregate-send-demands send-demands-requires add-with-demanded
-    cast-with-demanded (λ c κs. search needs) (λ c κs. search needs) (λ c. search needs) (λ c. search needs) (λ c. search needs) returns-4)
+    (λ c. search needs) (λ c. search needs) (λ c. search needs) (λ c. search needs) slice-aggregate-new-all (λ c. search needs)
+    (λ c. search needs) new-all-requires (λ c κs. search needs) (λ c. search needs) returns (λ c. search needs) (λ c κs. search needs)
+    add-if2 add-if2-2 (λ c κs. search needs) (λ c. search needs) returns-2 (λ c. search needs) store-all-requires mul-to
+    array-share-prefix-hashes slice-aggregate-send-demands send-demands-requires add-now cast-now (λ c κs. search needs)
+    (λ c. search needs) (λ c. search needs) (λ c. search needs) returns-3)
