@@ -381,7 +381,7 @@ static inline enum memory judge(const uint8_t *message, size_t length, tandawire
  * caller: nothing that a peer sends may bring them about. A number that is no state's is such a fault. */
 static inline int lawful(uint32_t was, tandawire_stepped a)
 {
-    int over = was == TANDAWIRE_FINISHED || was == TANDAWIRE_ABORTED, none = !strcmp(tandawire_state_text(was), "unknown state");
+    int over = was == TANDAWIRE_FINISHED || was == TANDAWIRE_ABORTED, none = was == 4 || was > TANDAWIRE_ABORTED;
     if (over || none)
         return a.refusal == (over ? TANDAWIRE_REFUSED_OUT_OF_TURN : TANDAWIRE_REFUSED_FORM) && a.next.state == was && a.sent + a.due == 0;
     if (a.refusal == TANDAWIRE_REFUSED_NONE)

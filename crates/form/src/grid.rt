@@ -26,8 +26,12 @@ pub const ELEMENT: usize = 5;
 
 pub const DONE: usize = 6;
 
+pub const COLUMNS: usize = 7;
+
+const ROWS: usize = 7;
+
 // One row a state: IBF, IBF LAST, INQUIRY, OFFER, DEMAND, ELEMENT, DONE.
-const GRID: [[bool; 7]; 7] = [
+const GRID: [[bool; COLUMNS]; ROWS] = [
     [true, true, false, false, false, false, false], // 0 Expecting IBF
     [true, true, false, false, false, false, false], // 1 Expecting IBF Last
     [false, false, false, true, true, true, true], // 2 Active Decoding
@@ -49,14 +53,14 @@ fn row_of(state: u32) -> usize
         WAITING => 4,
         FINISHED => 5,
         ABORTED => 6,
-        _ => 7,
+        _ => ROWS,
     }
 }
 
 pub fn is_state(state: u32) -> bool
     ensures { λ r. ⌜ r ≡ isState state ⌝ }
 {
-    row_of(state) < 7
+    row_of(state) < ROWS
 }
 
 pub fn is_ended(state: u32) -> bool
@@ -70,10 +74,10 @@ pub fn admits(state: u32, kind: usize) -> bool
     ensures { λ r. ⌜ r ≡ entry state kind ⌝ }
 {
     let row = row_of(state);
-    if 6 < row {
+    if ROWS <= row {
         return false;
     }
-    if 6 < kind {
+    if COLUMNS <= kind {
         return false;
     }
     let entries = GRID[row];

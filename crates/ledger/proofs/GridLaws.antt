@@ -1,4 +1,5 @@
--- The grid, looked through: what every yes in it has is found by computing, so that a row or a column more asks for no proof. Assumes nothing.
+-- The grid, looked through: what every yes in it has is found by computing, so a row or a column more, of which these hold too, asks for no proof.
+-- Assumes nothing.
 --
 --   no-state, no-kind     outside the grid nothing may come
 --   by-grid               what each yes has
@@ -8,10 +9,11 @@ use mathlib.Core.Logic.{_⊎_, inl, inr}
 use mathlib.Core.Bool.{Bool, true, false, not, _&&_, _||_, cond, false≢true, and-false, and-true}
 use mathlib.Core.List.{List, [], _∷_}
 use Prim.Native.Nat.{ℕ, zero, suc, _≤_, _<_}
+use native.Mathlib.Nat.{le-trans}
 use native.Mathlib.Omega.{arith}
 use lib.Dec.{eqb, ltb, leb, leb·suc-suc}
 use lib.ListN.{length, getD, List·getD-eq-default}
-use borrow.Author.Tests.{eqb-true, eq-eqb, ne-eqb, not-true, leb-true, lt-ltb, ltb-true, ltb-false}
+use borrow.Author.Tests.{eqb-true, eqb-false, eq-eqb, ne-eqb, not-true, leb-true, lt-ltb, ltb-true, ltb-false}
 use Rattle.bucket.specs.Lists.{elem}
 use Rattle.message.specs.Layout.{Content}
 use Rattle.filter.specs.Sets.{all, implies}
@@ -35,9 +37,12 @@ place-there (x ∷ l) q = go (eqb q x) (place-there l q)
 pub no-state : (q k : ℕ) → isState q ≡ false → entry q k ≡ false
 unfolding entry
 no-state q k e =
-    ap (λ (row : List Bool). getD row k false) (List·getD-eq-default grid [] {n = rowOf q} (ltb-false (rowOf q) 7 (place-there states q ∙ e)))
+    ap (λ (row : List Bool). getD row k false) (List·getD-eq-default grid [] {n = rowOf q} (ltb-false (rowOf q) (length states) (place-there states q ∙ e)))
 
--- no row is longer than this
+-- every row is as long as the first
+abbrev pub columns : ℕ
+columns = length (getD grid 0 [])
+
 unfoldable within : ℕ → List (List Bool) → Bool
 within n [] = true
 within n (r ∷ g) = leb (length r) n && within n g
@@ -48,40 +53,39 @@ row-within n [] i e = omega arith
 row-within n (r ∷ g) zero e = leb-true (length r) n (and-l (leb (length r) n) (within n g) e)
 row-within n (r ∷ g) (suc i) e = row-within n g i (and-r (leb (length r) n) (within n g) e)
 
-pub no-kind : (q k : ℕ) → 7 ≤ k → entry q k ≡ false
+pub no-kind : (q k : ℕ) → columns ≤ k → entry q k ≡ false
 unfolding entry within
-no-kind q k h = let w = row-within 7 grid (rowOf q) refl in List·getD-eq-default (getD grid (rowOf q) []) false {n = k} (omega arith)
+no-kind q k h = List·getD-eq-default (getD grid (rowOf q) []) false {n = k} (le-trans (row-within columns grid (rowOf q) refl) h)
 
-abbrev kinds : List ℕ
-kinds = 0 ∷ 1 ∷ 2 ∷ 3 ∷ 4 ∷ 5 ∷ 6 ∷ []
+unfoldable below : ℕ → List ℕ
+below zero = []
+below (suc n) = n ∷ below n
 
-all-kinds : (k : ℕ) → k < 7 → elem k kinds ≡ true
-unfolding elem
-all-kinds zero h = refl
-all-kinds (suc zero) h = refl
-all-kinds (suc (suc zero)) h = refl
-all-kinds (suc (suc (suc zero))) h = refl
-all-kinds (suc (suc (suc (suc zero)))) h = refl
-all-kinds (suc (suc (suc (suc (suc zero))))) h = refl
-all-kinds (suc (suc (suc (suc (suc (suc zero)))))) h = refl
-all-kinds (suc (suc (suc (suc (suc (suc (suc k))))))) h = absurd (omega arith)
+in-below : (n k : ℕ) → k < n → elem k (below n) ≡ true
+unfolding below elem
+in-below zero k h = absurd (omega arith)
+in-below (suc n) k h = go (eqb k n) refl (in-below n k)
+  where
+    go : (b : Bool) → eqb k n ≡ b → (k < n → elem k (below n) ≡ true) → b || elem k (below n) ≡ true
+    go true e ih = refl
+    go false e ih = ih (let ne = eqb-false k n e in omega arith)
 
 abbrev AtEach : (ℕ → ℕ → Bool) → Type 0
-AtEach P = all (λ q. all (λ k. implies (entry q k) (P q k)) kinds) states ≡ true
+AtEach P = all (λ q. all (λ k. implies (entry q k) (P q k)) (below columns)) states ≡ true
 
 by-grid : (P : ℕ → ℕ → Bool) → AtEach P → (q k : ℕ) → entry q k ≡ true → P q k ≡ true
 by-grid P each q k e =
     implies-of (entry q k) (P q k)
-    (all-in (λ n. implies (entry q n) (P q n)) kinds (all-in (λ p. all (λ n. implies (entry p n) (P p n)) kinds) states each q (state (isState q) refl)) k
-    (kind (ltb k 7) refl)) e
+    (all-in (λ n. implies (entry q n) (P q n)) (below columns)
+    (all-in (λ p. all (λ n. implies (entry p n) (P p n)) (below columns)) states each q (state (isState q) refl)) k (kind (ltb k columns) refl)) e
   where
     state : (b : Bool) → isState q ≡ b → isState q ≡ true
     state true s = s
     state false s = absurd (clash e (no-state q k s))
 
-    kind : (b : Bool) → ltb k 7 ≡ b → elem k kinds ≡ true
-    kind true s = all-kinds k (ltb-true k 7 s)
-    kind false s = absurd (clash e (no-kind q k (ltb-false k 7 s)))
+    kind : (b : Bool) → ltb k columns ≡ b → elem k (below columns) ≡ true
+    kind true s = in-below columns k (ltb-true k columns s)
+    kind false s = absurd (clash e (no-kind q k (ltb-false k columns s)))
 
 -- ---- sessions
 
@@ -99,7 +103,7 @@ unfolding admitted
 admitted-entry s c a = and-l (entry (s .state) (kindOf c)) _ a
 
 pub slice-idle : (s : Session) (c : Content) → isSlice c ≡ true → admitted s c ≡ true → idle s ≡ true
-unfolding idle admitted all entry placeIn
+unfolding idle admitted all below entry placeIn
 slice-idle s c k a =
     go («in» s EXPECTING) («in» s EXPECTING-LAST) («in» s PASSIVE) (s .first)
     (implies-of (isSlice c) _ (by-grid (λ q n. implies (leb n 1) (eqb q EXPECTING || (eqb q EXPECTING-LAST || eqb q PASSIVE))) refl (s .state) (kindOf c) (admitted-entry s c a)) k)
@@ -113,13 +117,13 @@ slice-idle s c k a =
     go false false false f e n = absurd (false≢true e)
 
 pub other-later : (s : Session) (c : Content) → isSlice c ≡ false → admitted s c ≡ true → 2 ≤ s .state
-unfolding all entry placeIn
+unfolding all below entry placeIn
 other-later s c k a =
     leb-true 2 (s .state)
     (implies-of (not (isSlice c)) _ (by-grid (λ q n. implies (not (leb n 1)) (leb 2 q)) refl (s .state) (kindOf c) (admitted-entry s c a)) (ap not k))
 
 pub inquiry-passive : (s : Session) (c : Content) → kindOf c ≡ 2 → admitted s c ≡ true → s .state ≡ PASSIVE
-unfolding all entry placeIn
+unfolding all below entry placeIn
 inquiry-passive s c k a =
     eqb-true (s .state) PASSIVE
     (implies-of (eqb (kindOf c) 2) _ (by-grid (λ q n. implies (eqb n 2) (eqb q PASSIVE)) refl (s .state) (kindOf c) (admitted-entry s c a)) (eq-eqb (kindOf c) 2 k))
@@ -164,7 +168,7 @@ unfolding idle
 ended-idle s = by-ended (λ q. eqb q 0 || (eqb q 1 || (eqb q 3 && s .first)) ≡ false) refl refl (s .state)
 
 pub ended-admits : (s : Session) (c : Content) → isEnded (s .state) ≡ true → admitted s c ≡ false
-unfolding all entry placeIn
+unfolding all below entry placeIn
 ended-admits s c e = go (admitted s c) refl
   where
     go : (b : Bool) → admitted s c ≡ b → b ≡ false

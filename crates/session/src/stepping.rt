@@ -166,7 +166,7 @@ fn screened(state: u32, m: Message) -> u32
     ensures { λ r. ⌜ r ≡ screenOf state (columnOf m) ⌝ }
 {
     let k = column(m);
-    if k == 7 {
+    if k == form::grid::COLUMNS {
         return MALFORMED;
     }
     if !form::grid::admits(state, k) {
@@ -187,6 +187,6 @@ fn column(m: Message) -> usize
         Message::Demand { .. } => form::grid::DEMAND,
         Message::Element { .. } => form::grid::ELEMENT,
         Message::Done => form::grid::DONE,
-        Message::Malformed => 7,
+        Message::Malformed => form::grid::COLUMNS,
     }
 }

@@ -35,6 +35,7 @@ use Rattle.ledger.specs.Grid.{FINISHED, ABORTED, isEnded}
 use Rattle.ledger.specs.Session.{Session, Outcome, Change, answer, sliced, acts, stopped, refusal, swapped, decoded, change, act, halted, refused, step}
 use Rattle.ledger.specs.Calls.{Given, Left, goodForm, hasLedgerRoom, hasRooms, early, tableOf, hashGiven, sessionOf, unchanged, ended, went, stepSaid, stepOn, stepCall}
 use Rattle.ledger.proofs.BookLaws.{Books, Form}
+use Rattle.ledger.proofs.FaultLaws as Faults
 use Rattle.ledger.proofs.FaultLaws.{Ended, by-kind, by-reading, by-step, refused-ended}
 use Rattle.ledger.proofs.GridLaws.{ended-stopped}
 use Rattle.ledger.proofs.Lawful.{checkIn, lawful}
@@ -262,8 +263,7 @@ module _ (derive : ℕ → ℕ) (bound : (h : ℕ) → h < 2 ^ 512 → derive h 
     made = act derive (tableOf G) (hashGiven G) (sessionOf derive G) c
 
     pub acted-step : step derive (tableOf G) (hashGiven G) (sessionOf derive G) c ≡ made
-    unfolding step
-    acted-step = rw e
+    acted-step = Faults.acted derive (tableOf G) (hashGiven G) (sessionOf derive G) c e
 
     pub acted-form : Form derive (tableOf G) (made .session)
     acted-form =
