@@ -4,6 +4,8 @@
 #define _POSIX_C_SOURCE 199309L
 #include "jobs.h"
 
+#include <assert.h>
+
 #include "../include/tandawire.h"
 #include "baseline.h"
 #include "message.h"
@@ -126,13 +128,31 @@ static int check(void)
 
 /* ---- The jobs ---- */
 
-/* The filter of a table of 4,096 elements. */
+/* The filter of a table of 4,096 elements, whose counters are of width 4; and filters of that size with counters of other widths. */
 static const struct job jobs[] = {
-    {"write_4096", "write a filter of 4096", "tandawire_filter_write", "c_filter_write", 4096, 4096, 0, 0, 1500000, 0},
-    {"lay_4096", "lay both slices of 4096", "tandawire_filter_lay", "c_filter_lay", 4096, 4096, 0, 0, 1500000, 0},
+    {"write_4096", "write a filter of 4096, width 4", "tandawire_filter_write", "c_filter_write", 4096, 4096, 0, 0, 600000, 0},
+    {"lay_4096", "lay both slices of 4096, width 4", "tandawire_filter_lay", "c_filter_lay", 4096, 4096, 0, 0, 900000, 0},
     {"read_4096", "read both slices of 4096 as messages", "tandawire_message_read", "c_message_read", 4096, 4096, 0, 0, 0, 0},
+    {"write_1", "write a filter of 4096, width 1", "tandawire_filter_write", "c_filter_write", 4096, 0, 0, 0, 330000, 0},
+    {"lay_1", "lay both slices of 4096, width 1", "tandawire_filter_lay", "c_filter_lay", 4096, 0, 0, 0, 330000, 0},
+    {"write_9", "write a filter of 4096, width 9", "tandawire_filter_write", "c_filter_write", 4096, 0, 0, 0, 1100000, 0},
+    {"lay_9", "lay both slices of 4096, width 9", "tandawire_filter_lay", "c_filter_lay", 4096, 0, 0, 0, 750000, 0},
+    {"write_32", "write a filter of 4096, width 32", "tandawire_filter_write", "c_filter_write", 4096, 0, 0, 0, 3400000, 0},
+    {"lay_32", "lay both slices of 4096, width 32", "tandawire_filter_lay", "c_filter_lay", 4096, 0, 0, 0, 2000000, 0},
 };
-enum { WRITE, LAY, READ };
+
+/* What each of them does, and the width of its counters where they are drawn; 0 for a table's. */
+enum kind { WRITE, LAY, READ };
+static const struct part {
+    enum kind kind;
+    uint32_t width;
+} parts[] = {{WRITE, 0}, {LAY, 0}, {READ, 0}, {WRITE, 1}, {LAY, 1}, {WRITE, 9}, {LAY, 9}, {WRITE, 32}, {LAY, 32}};
+static_assert(sizeof parts / sizeof parts[0] == sizeof jobs / sizeof jobs[0], "a part for each job");
+
+static struct part part_of(const struct job *job)
+{
+    return parts[job - jobs];
+}
 
 /* Both slices are laid, or read; they end at first and at end. */
 static int take(int side, int laying, size_t first, size_t end)
@@ -146,7 +166,7 @@ static int take(int side, int laying, size_t first, size_t end)
 static double time_of(const struct job *job, int side, uint32_t salt)
 {
     struct timespec a, b;
-    if (job == &jobs[WRITE]) {
+    if (part_of(job).kind == WRITE) {
         clock_gettime(CLOCK_MONOTONIC, &a);
         tandawire_written w = write_by(side, job->size, salt, sizeof sent[side], 0);
         clock_gettime(CLOCK_MONOTONIC, &b);
@@ -156,15 +176,22 @@ static double time_of(const struct job *job, int side, uint32_t salt)
     size_t end = c_filter_write(given.ids, MOST, given.hashes, MOST, given.counts, MOST, job->size, salt, sent[side], sizeof sent[side], 0).next;
     size_t first = get(sent[side], 2);
     clock_gettime(CLOCK_MONOTONIC, &a);
-    int fine = take(side, job == &jobs[LAY], first, end);
+    int fine = take(side, part_of(job).kind == LAY, first, end);
     clock_gettime(CLOCK_MONOTONIC, &b);
-    if (job == &jobs[LAY] && memcmp(&laid[side], &given, sizeof given) != 0)
+    if (part_of(job).kind == LAY && memcmp(&laid[side], &given, sizeof given) != 0)
         return -1;
     return fine ? nanoseconds(a, b) : -1;
 }
 
 static void prepare(const struct job *job, uint32_t salt)
 {
+    uint32_t width = part_of(job).width;
+    if (width > 0) {
+        state = SEED + salt;
+        fill(width);
+        given.counts[0] |= (int64_t)1 << (width - 1);
+        return;
+    }
     if (salt == 1) {
         state = SEED;
         make(&tables, job->common, job->ours, job->theirs);

@@ -4,13 +4,14 @@ use mathlib.Core.Path.{_≡_, refl, sym, ap, ap₂, _∙_, subst}
 use mathlib.Core.Bool.{Bool, true, false, cond}
 use mathlib.Core.List.{List, [], _∷_, _++_}
 use Prim.Native.Nat.{ℕ, zero, suc, _+_, _-_, _*_, _/_, _%_, _^_, _≤_, _<_}
-use native.Mathlib.Nat.{le-of-lt, suc-mul, mul-le-mul-right, mod-lt, mod-eq-of-lt, mod-mod, mul-suc, mul-add, add-comm, add-assoc, add-mul, mul-assoc, mul-comm, zero-add, zero-mul, mod-one, div-one, le-of-suc-le-suc, mul-zero, suc-add, div-add-mod, mul-one, div-lt-iff-lt-mul}
+use native.Mathlib.Nat.{le-of-lt, suc-mul, mul-le-mul-right, zero-mod, mod-lt, mod-eq-of-lt, mod-mod, mul-suc, mul-add, add-comm, add-assoc, add-mul, mul-assoc, mul-comm, zero-add, zero-mul, mod-one, div-one, le-of-suc-le-suc, mul-zero, suc-add, div-add-mod, mul-one, div-lt-iff-lt-mul}
 use native.Mathlib.Omega.{arith}
 use lib.Arith.{digits-lt}
 use lib.Dec.{eqb, ltb}
 use borrow.Author.Tests.{eqb-true, eqb-false, ltb-true, ltb-false, lt-ltb, le-ltb}
 use lib.ListN.{length, getD, length-append}
 use lib.Pow.{pow-add, pow-pos, high, low, shr-shr, field, mod-mod-pow, mod-pow-add}
+use lib.Seq.{ext-getD}
 use Rattle.bucket.specs.Digits.{joined, groups, before, bitAt, Below}
 
 -- a number of j bits before one of k bits
@@ -69,13 +70,15 @@ groups-below w (suc n) x zero = mod-lt (x / 2 ^ (w * n)) (pow-pos w)
 groups-below w (suc n) x (suc i) = groups-below w n x i
 
 -- taking apart what was joined
-pub groups-joined : (w : ℕ) (xs : List ℕ) → Below w xs → groups w (length xs) (joined w xs) ≡ xs
+pub groups-joined-at : (w : ℕ) (xs : List ℕ) (i : ℕ) → getD (groups w (length xs) (joined w xs)) i 0 ≡ getD xs i 0 % 2 ^ w
 unfolding groups joined
-groups-joined w [] h = refl
-groups-joined w (x ∷ xs) h =
-    ap₂ (λ (d : ℕ) (l : List ℕ). d ∷ l)
-    (ap (λ (q : ℕ). q % 2 ^ w) (high (x % 2 ^ w) (w * length xs) (joined-lt w xs)) ∙ mod-mod x (2 ^ w) ∙ mod-eq-of-lt (h 0))
-    (groups-low w (length xs) (x % 2 ^ w) (joined-lt w xs) ∙ groups-joined w xs (λ i. h (suc i)))
+groups-joined-at w [] i = sym (zero-mod (2 ^ w))
+groups-joined-at w (x ∷ xs) zero = ap (λ (q : ℕ). q % 2 ^ w) (high (x % 2 ^ w) (w * length xs) (joined-lt w xs)) ∙ mod-mod x (2 ^ w)
+groups-joined-at w (x ∷ xs) (suc i) = ap (λ (l : List ℕ). getD l i 0) (groups-low w (length xs) (x % 2 ^ w) (joined-lt w xs)) ∙ groups-joined-at w xs i
+
+pub groups-joined : (w : ℕ) (xs : List ℕ) → Below w xs → groups w (length xs) (joined w xs) ≡ xs
+groups-joined w xs h =
+    ext-getD 0 (groups w (length xs) (joined w xs)) xs (groups-length w (length xs) (joined w xs)) (λ i lt. groups-joined-at w xs i ∙ mod-eq-of-lt (h i))
 
 -- joining what was taken apart
 pub joined-groups : (w n x : ℕ) → joined w (groups w n x) ≡ x % 2 ^ (w * n)
@@ -92,9 +95,10 @@ groups-at w (suc n) x zero h = ap (λ (k : ℕ). x / 2 ^ (w * k) % 2 ^ w) (omega
 groups-at w (suc n) x (suc i) h = groups-at w n x i (le-of-suc-le-suc h) ∙ ap (λ (k : ℕ). x / 2 ^ (w * k) % 2 ^ w) (omega arith)
 
 -- bit j of numbers of w bits each is bit j of the one number that they make
-pub joined-bit : (w : ℕ) (xs : List ℕ) (j : ℕ) → zero < w → Below w xs → j < w * length xs → bitAt w xs j ≡ joined w xs / 2 ^ (w * length xs - 1 - j) % 2
-joined-bit w xs j pos h lt =
-    ap (λ (l : List ℕ). getD l i 0 / 2 ^ b % 2) (sym (groups-joined w xs h))
+pub joined-bit : (w : ℕ) (xs : List ℕ) (j : ℕ) → zero < w → j < w * length xs → bitAt w xs j ≡ joined w xs / 2 ^ (w * length xs - 1 - j) % 2
+joined-bit w xs j pos lt =
+    sym (part-mod (getD xs i 0) b 1 w (omega (arith, mod-lt j pos)))
+    ∙ ap (λ (q : ℕ). q / 2 ^ b % 2) (sym (groups-joined-at w xs i))
     ∙ ap (λ (q : ℕ). q / 2 ^ b % 2) (groups-at w n v i inside)
     ∙ part-mod (v / 2 ^ (w * (n - 1 - i))) b 1 w (omega (arith, mod-lt j pos))
     ∙ ap (λ (q : ℕ). q % 2) (shr-shr v (w * (n - 1 - i)) b)

@@ -2,12 +2,12 @@
 pub mod TestLaws
 pub mod ListLaws
 pub mod OverLaws
-pub mod DigitLaws
-pub mod PackedLaws
 pub mod RoomLaws
+pub mod DigitLaws
+pub mod BitLaws
+pub mod PackedLaws
 pub mod NumberLaws
-pub mod PackLaws
-pub mod WindowLaws
+pub mod ReadLaws
 pub mod RoundLaws
 pub mod XorLaws
 pub mod CrcLaws

@@ -1,9 +1,8 @@
 -- Counts as numbers: what the code's signed tests and casts say of `number`, `hasBits` and `fitsIn`. Assumes nothing.
 use mathlib.Core.Path.{_≡_, refl, sym, ap, _∙_}
-use mathlib.Core.Bool.{Bool, true, false, _&&_, true≢false, and-eq-true-iff}
-use mathlib.Core.List.{List, [], _∷_, map}
-use Prim.Native.Nat.{ℕ, zero, suc, _+_, _^_, _≤_, _<_}
-use native.Mathlib.Nat.{le-of-suc-le-suc}
+use mathlib.Core.Bool.{Bool, true, false, _&&_, true≢false}
+use mathlib.Core.List.{List, map}
+use Prim.Native.Nat.{ℕ, _+_, _^_, _≤_, _<_}
 use native.Mathlib.Numerals.{add-one}
 use native.Mathlib.Omega.{arith}
 use lib.Dec.{T, ltb}
@@ -78,15 +77,9 @@ counts-length w n bs = length-map (unpacked w n bs) pos ∙ unpacked-length w n 
 pub counts-at : (xs : List ℕ) (i : ℕ) {r : ℕ} → r < 2 ^ 63 → r ≡ getD xs i 0 → toZ w64 r ≡ getD (map pos xs) i (pos 0)
 counts-at xs i {r} h e = toZ-pos w64 r h ∙ ap pos e ∙ sym (List·getD-map pos xs i 0)
 
-number-below : (w : ℕ) (z : ℤ) → hasBits w z ≡ true → number z < 2 ^ w
+pub number-below : (w : ℕ) (z : ℤ) → hasBits w z ≡ true → number z < 2 ^ w
 number-below w (pos n) h = ltb-true n (2 ^ w) h
 number-below w (negsuc n) h = absurd (true≢false (sym h))
-
-pub fits-at : (w : ℕ) (cs : List ℤ) (i : ℕ) → fitsIn w cs ≡ true → i < length cs → number (getD cs i (pos 0)) < 2 ^ w
-unfolding fitsIn
-fits-at w [] i h l = absurd (omega arith)
-fits-at w (c ∷ cs) zero h l = number-below w c (and-eq-true-iff (hasBits w c) (fitsIn w cs) .0 h .0)
-fits-at w (c ∷ cs) (suc i) h l = fits-at w cs i (and-eq-true-iff (hasBits w c) (fitsIn w cs) .0 h .1) (le-of-suc-le-suc l)
 
 -- the state of the test: those before i have been found to fit
 pub record Fitting (w : ℕ) (cs : List ℤ) (i : ℕ) : Type 0 where

@@ -1,19 +1,37 @@
 -- Laws of `over` and `part`: what stands where, one write behind another, and the number in a part. Assumes nothing.
-use mathlib.Core.Path.{_≡_, refl, sym, ap, ap₂, _∙_}
+use mathlib.Core.Path.{_≡_, refl, sym, ap, ap₂, subst, _∙_}
+use mathlib.Core.Logic.{_≢_}
+use mathlib.Core.Bool.{Bool, true, false}
 use mathlib.Core.List.{List, [], _∷_, _++_, append-assoc}
 use Prim.Native.Nat.{ℕ, zero, suc, _+_, _-_, _*_, _%_, _^_, _≤_, _<_, min}
-use native.Mathlib.Nat.{add-assoc, add-zero}
+use native.Mathlib.Nat.{add-assoc, add-zero, sub-zero}
 use native.Mathlib.Numerals.{add-one}
 use native.Mathlib.Omega.{arith}
+use lib.Dec.{eqb}
 use lib.ListN.{length, take, drop, getD, set, length-append, length-take, length-drop, length-set, take-append-drop, drop-of-length-le}
-use lib.Seq.{take-at, drop-at, drop-drop, set-split, length-take-le, take-suc, getD-drop, take-nil}
+use lib.Seq.{take-at, drop-at, take-take, drop-drop, set-split, length-take-le, take-suc, getD-drop, getD-set-same, getD-set-other, take-nil}
+use borrow.Author.Tests.{eqb-true, eqb-false}
+use borrow.Rule.Slice.PartMut.{putMid, post-is}
 use Rattle.bucket.specs.Digits.{joined}
 use Rattle.bucket.specs.Lists.{over, part}
 use Rattle.bucket.proofs.DigitLaws.{joined-lt, joined-append}
 
+-- what stands at i after a was set at n
+pub set-cases : {A : Type 0} (l : List A) (i n : ℕ) (a d : A) (P : A → Type 0) → n < length l → (i ≡ n → P a) → (i ≢ n → P (getD l i d)) → P (getD (set l n a) i d)
+set-cases {A = A} l i n a d P h same other = go (eqb i n) refl
+  where
+    go : (t : Bool) → eqb i n ≡ t → P (getD (set l n a) i d)
+    go true e = let s = eqb-true i n e in subst P (sym (ap (λ (m : ℕ). getD (set l n a) m d) s ∙ getD-set-same l n a d h)) (same s)
+    go false e = let s = eqb-false i n e in subst P (sym (getD-set-other l n i a d s)) (other s)
+
 pub open-over : {A : Type 0} (at : ℕ) (xs l : List A) → over at xs l ≡ take at l ++ (xs ++ drop (at + length xs) l)
 unfolding over
 open-over at xs l = refl
+
+-- a part that was lent alone and came back as xs
+pub over-part : {A : Type 0} (at e : ℕ) (xs l : List A) → at + length xs ≡ e → putMid at (e - at) l xs ≡ over at xs l
+over-part {A = A} at e xs l s =
+    ap (λ (q : List A). take at l ++ (xs ++ q)) (post-is at e l (omega arith) ∙ ap (λ (n : ℕ). drop n l) (sym s)) ∙ sym (open-over at xs l)
 
 module _ {A : Type 0} (at : ℕ) (l : List A) where
   pub over-nil : over at [] l ≡ l
@@ -101,6 +119,21 @@ pub laid-take : {A : Type 0} {at i : ℕ} {l₀ l : List A} (xs : List A) (d : A
 laid-take {A = A} {at = at} {i = i} xs d k h room =
     laid-next (getD xs i d) (take (i + 1) xs) k (ap (λ (q : ℕ). at + q) (length-take-le i xs (omega arith))) room
     (ap (λ (q : ℕ). take q xs) (add-one i) ∙ take-suc xs i d h)
+
+-- a part of a part
+drop-take : (k b : ℕ) (l : List ℕ) → drop b (take k l) ≡ take (k - b) (drop b l)
+drop-take k zero l = rw sub-zero
+drop-take zero (suc b) l = let e : 0 - suc b ≡ 0 = omega arith in rw e
+drop-take (suc k) (suc b) [] = sym (take-nil (suc k - suc b))
+drop-take (suc k) (suc b) (x ∷ l) =
+    let e : k - b ≡ suc k - suc b = omega arith in
+    drop-take k b l ∙ ap (λ (q : ℕ). take q (drop b l)) e
+
+pub part-part : (l : List ℕ) (at k b m : ℕ) → b + m ≤ k → part b m (part at k l) ≡ part (at + b) m l
+part-part l at k b m h =
+    ap (take m) (drop-take k b (drop at l))
+    ∙ take-take m (k - b) (drop b (drop at l)) (omega arith)
+    ∙ ap (take m) (drop-drop b at l)
 
 -- a part that ends past the end
 take-min : {A : Type 0} (k n : ℕ) (l : List A) → n ≡ min k (length l) → take n l ≡ take k l

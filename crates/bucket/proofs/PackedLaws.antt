@@ -1,13 +1,18 @@
 -- The laws of packed numbers: packing and unpacking undo each other, and where each bit stands. Assumes nothing.
-use mathlib.Core.Path.{_≡_, sym, ap, ap₂, _∙_}
+use mathlib.Core.Path.{_≡_, refl, sym, ap, ap₂, _∙_}
+use mathlib.Core.Bool.{Bool, true, false}
 use mathlib.Core.List.{List}
 use Prim.Native.Nat.{ℕ, zero, _+_, _-_, _*_, _/_, _%_, _^_, _≤_, _<_}
-use native.Mathlib.Nat.{mod-eq-of-lt, mul-assoc, add-zero, mul-mod-left}
+use native.Mathlib.Nat.{mod-lt, mod-eq-of-lt, zero-div, add-zero, mul-mod-left}
 use native.Mathlib.Omega.{arith}
-use lib.ListN.{length}
-use lib.Pow.{pow-add, split, shr-shr, shl-shr, shl-lt, shr-mod}
-use Rattle.bucket.specs.Digits.{joined, bytesFor, spare, packed, unpacked, spareBits, bitAt, Below}
-use Rattle.bucket.proofs.DigitLaws.{joined-lt, groups-length, groups-below, groups-joined, joined-groups, joined-bit}
+use lib.Dec.{ltb}
+use lib.ListN.{length, getD}
+use lib.Pow.{pow-pos, split, shr-shr, shl-shr, shl-lt, shr-mod}
+use borrow.Author.Tests.{ltb-true, ltb-false}
+use Rattle.bucket.specs.Digits.{joined, groups, bytesFor, spare, packed, unpacked, spareBits, bitAt, Below}
+use Rattle.bucket.proofs.BitLaws.{Read, Written, same-number, same-bits, bit-place}
+use Rattle.bucket.proofs.DigitLaws.{joined-lt, groups-length, groups-below, groups-joined, groups-joined-at, joined-groups, joined-bit, part-mod}
+use Rattle.bucket.proofs.RoomLaws.{bits-ahead}
 
 module _ (w : ℕ) where
   -- the bytes hold the bits
@@ -53,53 +58,77 @@ module _ (w : ℕ) where
       ap (λ (q : ℕ). q * 2 ^ s) (shr-mod (w * n) s lt) ∙ sym (add-zero (v / 2 ^ s * 2 ^ s)) ∙ ap (λ (q : ℕ). v / 2 ^ s * 2 ^ s + q) (sym z) ∙ split v s in
       rw (groups-length w n (v / 2 ^ s), joined-groups w n (v / 2 ^ s), back, ← l) (groups-joined 8 bs h)
 
--- a bit of the packed bytes, in the number that was packed
-packed-joined-bit : (w : ℕ) (xs : List ℕ) (j : ℕ) → j < 8 * length (packed w xs)
-    → bitAt 8 (packed w xs) j ≡ joined w xs * 2 ^ spare (w * length xs) / 2 ^ (8 * bytesFor (w * length xs) - 1 - j) % 2
-packed-joined-bit w xs j lt =
-    joined-bit 8 (packed w xs) j (omega arith) (packed-below w xs) lt
-    ∙ ap₂ (λ (v l : ℕ). v / 2 ^ (8 * l - 1 - j) % 2) (packed-joined w xs) (packed-length w xs)
+-- ---- where each bit stands (document 02, Req 03)
 
--- packed bit j is bit j mod w of counter j / w, both highest first from 0
-pub packed-bit : (w : ℕ) (xs : List ℕ) (j : ℕ) → zero < w → Below w xs → j < w * length xs → bitAt 8 (packed w xs) j ≡ bitAt w xs j
-packed-bit w xs j pos h lt =
-    packed-joined-bit w xs j (omega (arith, packed-length w xs))
-    ∙ ap (λ (e : ℕ). v * 2 ^ s / 2 ^ e % 2) (omega (arith, room w n))
-    ∙ ap (λ (q : ℕ). q % 2) (sym (shr-shr (v * 2 ^ s) s (n - 1 - j)) ∙ ap (λ (q : ℕ). q / 2 ^ (n - 1 - j)) (shl-shr v s))
-    ∙ sym (joined-bit w xs j pos h lt)
-  where
-    n : ℕ
-    n = w * length xs
+module _ (w n : ℕ) (bs : List ℕ) (l : length bs ≡ bytesFor (w * n)) where
+  -- a bit of the bytes, in the one number that they make
+  byte-bit : (j : ℕ) → j < 8 * length bs → bitAt 8 bs j ≡ joined 8 bs / 2 ^ (8 * bytesFor (w * n) - 1 - j) % 2
+  byte-bit j lt = joined-bit 8 bs j (omega arith) lt ∙ ap (λ (m : ℕ). joined 8 bs / 2 ^ (8 * m - 1 - j) % 2) l
 
-    v : ℕ
-    v = joined w xs
+  -- packed bit j is bit j mod w, both counted from the highest from 0, of counter j / w rounded down: of the counters read
+  pub unpacked-bit : (j : ℕ) → zero < w → j < w * n → bitAt w (unpacked w n bs) j ≡ bitAt 8 bs j
+  unfolding unpacked
+  unpacked-bit j pos lt =
+      joined-bit w (unpacked w n bs) j pos (rw (unpacked-length w n bs) lt)
+      ∙ ap₂ (λ (v m : ℕ). v / 2 ^ (w * m - 1 - j) % 2) (joined-groups w n y) (unpacked-length w n bs)
+      ∙ part-mod y (w * n - 1 - j) 1 (w * n) (omega arith)
+      ∙ ap (λ (q : ℕ). q % 2) (shr-shr (joined 8 bs) (spare (w * n)) (w * n - 1 - j))
+      ∙ ap (λ (e : ℕ). joined 8 bs / 2 ^ e % 2) (omega (arith, room w (w * n)))
+      ∙ sym (byte-bit j (omega (arith, l)))
+    where
+      y : ℕ
+      y = joined 8 bs / 2 ^ spare (w * n)
 
-    s : ℕ
-    s = spare n
+  -- no other number is counter i
+  pub read-unpacked : (i x : ℕ) → i < n → Read (λ k. bitAt 8 bs (w * i + k)) w x → x ≡ getD (unpacked w n bs) i 0
+  unfolding unpacked
+  read-unpacked i x h r = same-number w (r .below) (groups-below w n _ i) each
+    where
+      each : (p : ℕ) → p < w → x / 2 ^ p % 2 ≡ getD (unpacked w n bs) i 0 / 2 ^ p % 2
+      each p q =
+          let k = w - 1 - p in
+          let back : w - 1 - k ≡ p = omega arith in
+          let ahead = bits-ahead w n i h in
+          rw back at (r .bits k (omega arith) ∙ sym (unpacked-bit (w * i + k) (omega arith) (omega arith)) ∙ bit-place w (unpacked w n bs) i k (omega arith))
 
--- spare bits are zero
-pub packed-rest : (w : ℕ) (xs : List ℕ) (j : ℕ) → w * length xs ≤ j → j < 8 * length (packed w xs) → bitAt 8 (packed w xs) j ≡ 0
-packed-rest w xs j le lt =
-    packed-joined-bit w xs j lt
-    ∙ ap (λ (k : ℕ). v * 2 ^ k / 2 ^ e % 2) whole
-    ∙ ap (λ (q : ℕ). v * q / 2 ^ e % 2) (pow-add 2 (s - 1 - e + 1) e)
-    ∙ ap (λ (q : ℕ). q / 2 ^ e % 2) (sym (mul-assoc v (2 ^ (s - 1 - e + 1)) (2 ^ e)))
-    ∙ ap (λ (q : ℕ). q % 2) (shl-shr (v * 2 ^ (s - 1 - e + 1)) e)
-    ∙ ap (λ (q : ℕ). v * q % 2) (pow-add 2 (s - 1 - e) 1)
-    ∙ ap (λ (q : ℕ). q % 2) (sym (mul-assoc v (2 ^ (s - 1 - e)) 2))
-    ∙ mul-mod-left (v * 2 ^ (s - 1 - e)) 2
-  where
-    n : ℕ
-    n = w * length xs
+  -- the bits behind the counters are those of `spareBits`
+  spare-bit : (j : ℕ) → w * n ≤ j → j < 8 * length bs → spareBits w n bs / 2 ^ (8 * bytesFor (w * n) - 1 - j) % 2 ≡ bitAt 8 bs j
+  unfolding spareBits
+  spare-bit j le lt = part-mod (joined 8 bs) (8 * bytesFor (w * n) - 1 - j) 1 (spare (w * n)) (omega (arith, l)) ∙ sym (byte-bit j lt)
 
-    v : ℕ
-    v = joined w xs
+  -- they are zero where each of them is
+  pub spare-zero : spareBits w n bs ≡ 0 → (j : ℕ) → w * n ≤ j → j < 8 * length bs → bitAt 8 bs j ≡ 0
+  spare-zero z j le lt = sym (spare-bit j le lt) ∙ ap (λ (q : ℕ). q / 2 ^ (8 * bytesFor (w * n) - 1 - j) % 2) z ∙ ap (λ (q : ℕ). q % 2) (zero-div (2 ^ (8 * bytesFor (w * n) - 1 - j)))
 
-    s : ℕ
-    s = spare n
+  pub spare-none : ((j : ℕ) → w * n ≤ j → j < 8 * length bs → bitAt 8 bs j ≡ 0) → spareBits w n bs ≡ 0
+  unfolding spareBits
+  spare-none z = same-number (spare (w * n)) (mod-lt (joined 8 bs) (pow-pos (spare (w * n)))) (pow-pos (spare (w * n))) each
+    where
+      each : (p : ℕ) → p < spare (w * n) → spareBits w n bs / 2 ^ p % 2 ≡ 0 / 2 ^ p % 2
+      each p q =
+          let j = 8 * bytesFor (w * n) - 1 - p in
+          let back : 8 * bytesFor (w * n) - 1 - j ≡ p = omega arith in
+          ap (λ (e : ℕ). spareBits w n bs / 2 ^ e % 2) (sym back) ∙ spare-bit j (omega arith) (omega (arith, l)) ∙ z j (omega arith) (omega (arith, l))
+          ∙ ap (λ (q : ℕ). q % 2) (sym (zero-div (2 ^ p)))
 
-    e : ℕ
-    e = 8 * bytesFor n - 1 - j
+module _ (w : ℕ) (xs : List ℕ) where
+  -- packed bit j is bit j mod w, both counted from the highest from 0, of counter j / w rounded down: of the bytes written
+  pub packed-bit : (j : ℕ) → zero < w → j < w * length xs → bitAt 8 (packed w xs) j ≡ bitAt w xs j
+  unfolding unpacked
+  packed-bit j pos lt =
+      sym (unpacked-bit w (length xs) (packed w xs) (packed-length w xs) j pos lt)
+      ∙ ap (λ (v : ℕ). bitAt w (groups w (length xs) v) j) (ap (λ (q : ℕ). q / 2 ^ spare (w * length xs)) (packed-joined w xs) ∙ shl-shr (joined w xs) (spare (w * length xs)))
+      ∙ ap (λ (q : ℕ). q / 2 ^ (w - 1 - j % w) % 2) (groups-joined-at w xs (j / w))
+      ∙ part-mod (getD xs (j / w) 0) (w - 1 - j % w) 1 w (omega (arith, mod-lt j pos))
 
-    whole : s ≡ (s - 1 - e + 1) + e
-    whole = omega (arith, room w n, packed-length w xs, lt, le)
+  -- spare bits are zero
+  pub packed-rest : (j : ℕ) → w * length xs ≤ j → j < 8 * length (packed w xs) → bitAt 8 (packed w xs) j ≡ 0
+  packed-rest = spare-zero w (length xs) (packed w xs) (packed-length w xs) (packed-spare w xs)
+
+  -- no other bytes are the counters'
+  pub written-packed : (bs : List ℕ) → zero < w → length bs ≡ bytesFor (w * length xs) → Written (bitAt w xs) (w * length xs) bs → bs ≡ packed w xs
+  written-packed bs pos l f = same-bits 8 bs (packed w xs) (f .below) (packed-below w xs) (l ∙ sym (packed-length w xs)) (λ j lt. go j lt (ltb j (w * length xs)) refl)
+    where
+      go : (j : ℕ) → j < 8 * length bs → (t : Bool) → ltb j (w * length xs) ≡ t → bitAt 8 bs j ≡ bitAt 8 (packed w xs) j
+      go j lt true e = let h = ltb-true j (w * length xs) e in f .done j h ∙ sym (packed-bit j pos h)
+      go j lt false e = let h = ltb-false j (w * length xs) e in f .rest j h ∙ sym (packed-rest j h (rw (packed-length w xs, ← l) lt))

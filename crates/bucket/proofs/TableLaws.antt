@@ -1,6 +1,6 @@
 -- The eight tables: what their entries are, and that a CRC and a draw by them are the CRC. Assumes nothing.
 use mathlib.Core.Path.{_≡_, refl, sym, ap, ap₂, _∙_}
-use mathlib.Core.Bool.{Bool, true, false}
+use mathlib.Core.Bool.{true}
 use mathlib.Core.List.{List, _∷_, _++_}
 use Prim.Native.Nat.{ℕ, zero, suc, _+_, _-_, _*_, _/_, _%_, _^_, _≤_, _<_}
 use native.Mathlib.Nat.{mod-lt, zero-lt-suc, le-of-suc-le-suc}
@@ -10,14 +10,13 @@ use lib.Bits.{bitXor, xor-zero-r}
 use lib.ListN.{length, getD, drop, set, length-set}
 use lib.Pow.{high, low}
 use lib.Seq.{drop-cons, ext-getD, getD-set-same, getD-set-other}
-use lib.Dec.{eqb}
-use borrow.Author.Tests.{eqb-true, eqb-false}
 use Rattle.bucket.specs.Digits.{groups}
 use Rattle.bucket.specs.Lists.{elem, Distinct}
 use Rattle.bucket.specs.Crc.{steps, feed, crcOf, entry, tabulated, crcTables, lookedUp, crcOfZero, crcBy, nextBy}
 use Rattle.bucket.specs.Places.{crcNext}
 use Rattle.bucket.proofs.ListLaws.{elem-at, at-index, distinct-of, distinct-count}
 use Rattle.bucket.proofs.DigitLaws.{groups-length, groups-append, groups-mod}
+use Rattle.bucket.proofs.TestLaws.{each-more}
 use Rattle.bucket.proofs.XorLaws.{xor-assoc}
 use Rattle.bucket.proofs.CrcLaws.{steps-xor, steps-zero, steps-add, feed-start, feed-append, crc-split}
 
@@ -91,17 +90,9 @@ pub filled-more : (f : ℕ → ℕ) (m n v : ℕ) (t : List ℕ) → Filled f m 
 filled-more f m n v t g h e = record {
   within = omega arith;
   long = length-set t n v ∙ g .long;
-  each = λ i l. go i l (eqb i n) refl;
+  each = each-more (λ (i : ℕ). getD (set t n v) i 0 ≡ f i) n (λ i l. getD-set-other t n i v 0 (λ q. omega arith) ∙ g .each i l)
+      (getD-set-same t n v 0 (omega (arith, g .long)) ∙ e);
 }
-  where
-    go : (i : ℕ) → i < n + 1 → (b : Bool) → eqb i n ≡ b → getD (set t n v) i 0 ≡ f i
-    go i l true q =
-        let same = eqb-true i n q in
-        ap (λ (k : ℕ). getD (set t n v) k 0) same ∙ getD-set-same t n v 0 (omega (arith, g .long)) ∙ e ∙ ap f (sym same)
-    go i l false q = let other = eqb-false i n q in getD-set-other t n i v 0 other ∙ g .each i (less other)
-      where
-        less : (i ≡ n → ⊥) → i < n
-        less ne = omega arith
 
 -- ---- the entries
 

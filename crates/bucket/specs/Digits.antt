@@ -10,7 +10,8 @@
 --   bitAt w xs j        bit j of numbers of w bits, highest first from 0
 --   before xs ys        xs comes before ys where they first differ
 --
--- Laws (proofs/DigitLaws, PackedLaws): groups-joined, joined-groups, before-joined; unpacked-packed, packed-unpacked, packed-bit, packed-rest.
+-- Laws (proofs/DigitLaws, PackedLaws): groups-joined, joined-groups, before-joined; unpacked-packed, packed-unpacked; packed-bit, packed-rest,
+-- unpacked-bit, spare-zero: where each bit stands.
 -- Assumes nothing.
 use mathlib.Core.Bool.{Bool, false, _&&_, cond}
 use mathlib.Core.List.{List, [], _∷_}

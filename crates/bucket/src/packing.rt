@@ -1,12 +1,20 @@
-// Counters of a width of 1 to 32 bits in bytes, highest bit first, spare low bits zero.
+// Counters of a width w of 1 to 32 bits in bytes (document 02, Req 03): packed bit j is bit j mod w, both counted from the
+// highest from 0, of counter j / w rounded down; spare bits are zero. So 5, 0, 7 at width 3 are the bytes A3 80:
+//
+//     counter j / w        5      0      7
+//     its bit j mod w    0 1 2  0 1 2  0 1 2
+//     packed bit j       0 1 2  3 4 5  6 7|8  spare
+//                        1 0 1  0 0 0  1 1|1  0 0 0 0 0 0 0
+//
+// They are written and read one bit at a time: `pack_bits` sets each at its place, `counter` reads each at its place.
 ghost use mathlib.Core.Path.{_≡_};
 ghost use mathlib.Core.Bool.{_&&_, true};
 ghost use mathlib.Core.List.{map};
-ghost use Prim.Native.Nat.{_+_, _*_, _≤_, _<_, _^_};
+ghost use Prim.Native.Nat.{ℕ, _+_, _-_, _*_, _/_, _%_, _^_, _≤_, _<_};
 ghost use lib.IntN.{pos};
 ghost use lib.ListN.{length, getD};
-ghost use Rattle.bucket.specs.Digits.{bytesFor, packed, spareBits};
-ghost use Rattle.bucket.specs.Lists.{over, part};
+ghost use Rattle.bucket.specs.Digits.{bytesFor, packed, bitAt};
+ghost use Rattle.bucket.specs.Lists.{over};
 ghost use Rattle.bucket.specs.Packing.{number, numbers, hasBits, fitsIn, isWidth, takes, packInto, packEnd, countersAt, counterAt, isBare, unpacks, unpackInto};
 
 // Whether each count is a number of w bits, for a width of 1 to 32.
@@ -41,7 +49,9 @@ pub fn pack(counts: &[i64], w: u32, out: &mut [u8], at: usize) -> usize
     if !fits(counts, w) {
         return at;
     }
-    pack_all(counts, w, out, at)
+    let end = at + ((w as usize) * counts.len() + 7) / 8;
+    pack_bits(counts, w, &mut out[at..end]);
+    end
 }
 
 // Counter i of n that stand packed at width w from a position on; 0 where n such counters do not, or i is past them.
@@ -64,10 +74,16 @@ pub fn spare_is_zero(s: &[u8], at: usize, n: usize, w: u32) -> bool
     if !takes_room(w, n, at, s.len()) {
         return false;
     }
-    if n == 0 {
-        return true;
+    let bits = (w as usize) * n;
+    let end = (bits + 7) / 8 * 8;
+    let mut j: usize = bits;
+    while j < end {
+        if bit_at(s, at, j) != 0 {
+            return false;
+        }
+        j += 1;
     }
-    spare_bits(s, at, n, w) == 0
+    true
 }
 
 // The n counters that stand packed from a position on, laid into a column from another. Answers whether they were:
@@ -89,38 +105,23 @@ pub fn unpack(s: &[u8], at: usize, n: usize, w: u32, counts: &mut [i64], from: u
     true
 }
 
-fn pack_all(counts: &[i64], w: u32, out: &mut [u8], at: usize) -> usize
-    requires { ⌜ (fitsIn w (now counts) ≡ true) × (takes w (length (now counts)) at (length (now out)) ≡ true) ⌝ }
-    ensures { λ r. ⌜ (r ≡ at + bytesFor (w * length (now (counts .entry))))
-        × (now (out .exit) ≡ over at (packed w (numbers (now (counts .entry)))) (now (out .entry))) ⌝ }
+// Packed bit j is bit j mod w, both counted from the highest from 0, of counter j / w; spare bits are zero.
+fn pack_bits(counts: &[i64], w: u32, out: &mut [u8])
+    requires { ⌜ (1 ≤ w) × (w ≤ 32) × (length (now counts) ≤ 65536) × (length (now out) ≡ bytesFor (w * length (now counts))) ⌝ }
+    ensures { λ _. ⌜ now (out .exit) ≡ packed w (numbers (now (counts .entry))) ⌝ }
 {
-    let mut acc: u64 = 0;
-    let mut have: u32 = 0;
-    let mut n: usize = 0;
-    let mut i: usize = 0;
-    loop {
-        if 8 <= have {
-            have -= 8;
-            let q = two_to(have);
-            out[at + n] = (acc / q) as u8;
-            acc = acc % q;
-            n += 1;
-        } else if i < counts.len() {
-            let p = two_to(w);
-            acc = acc * p + number_of(counts[i]);
-            have += w;
-            i += 1;
-        } else {
-            break;
-        }
+    clear(out);
+    let bits = w * (counts.len() as u32);
+    let mut j: u32 = 0;
+    while j < bits {
+        let counter = number_of(counts[(j / w) as usize]);
+        let bit = bit_of(counter, w, j % w) as u8;
+        out[(j / 8) as usize] |= bit << (7 - j % 8);
+        j += 1;
     }
-    if 0 < have {
-        out[at + n] = (acc * two_to(8 - have)) as u8;
-        return at + n + 1;
-    }
-    at + n
 }
 
+// Each counter, one bit at a time.
 fn unpack_all(s: &[u8], at: usize, n: usize, w: u32, counts: &mut [i64], from: usize)
     requires { ⌜ (takes w n at (length (now s)) ≡ true) × (from + n ≤ length (now counts)) ⌝ }
     ensures { λ _. ⌜ now (counts .exit) ≡ over from (map pos (countersAt w n at (now (s .entry)))) (now (counts .entry)) ⌝ }
@@ -132,29 +133,48 @@ fn unpack_all(s: &[u8], at: usize, n: usize, w: u32, counts: &mut [i64], from: u
     }
 }
 
-// The few bytes that counter i stands in, as one number, and its bits out of that.
+// Bit k of counter i is packed bit j = w × i + k, both counted from the highest from 0: i is j / w, and k is j mod w.
 fn counter(s: &[u8], at: usize, n: usize, w: u32, i: usize) -> u32
     requires { ⌜ (takes w n at (length (now s)) ≡ true) × (i < n) ⌝ }
     ensures { λ r. ⌜ r ≡ getD (countersAt w n at (now (s .entry))) i 0 ⌝ }
 {
-    let bits = w as usize;
-    let from = bits * i;
-    let first = from / 8;
-    let last = (from + bits + 7) / 8;
-    let v = crate::bytes::number_at(s, at + first, last - first);
-    let t = (8 * last - from - bits) as u32;
-    (v / two_to(t) % two_to(w)) as u32
+    let first = (w as usize) * i;
+    let mut c: u32 = 0;
+    let mut k: u32 = 0;
+    while k < w {
+        let j = first + k as usize;
+        c = 2 * c + bit_at(s, at, j);
+        k += 1;
+    }
+    c
 }
 
-// They stand in the last byte.
-fn spare_bits(s: &[u8], at: usize, n: usize, w: u32) -> u32
-    requires { ⌜ (takes w n at (length (now s)) ≡ true) × (0 < n) ⌝ }
-    ensures { λ r. ⌜ r ≡ spareBits w n (part at (bytesFor (w * n)) (now (s .entry))) ⌝ }
+// Bit j of the bytes from a position on, counted from the highest from 0.
+fn bit_at(s: &[u8], at: usize, j: usize) -> u32
+    requires { ⌜ at + j / 8 < length (now s) ⌝ }
+    ensures { λ r. ⌜ r ≡ bitAt 8 (now (s .entry)) (8 * at + j) ⌝ }
 {
-    let bits = (w as usize) * n;
-    let bytes = (bits + 7) / 8;
-    let last = s[at + bytes - 1];
-    (crate::bytes::wide(last) % two_to((8 * bytes - bits) as u32)) as u32
+    let byte = crate::bytes::wide(s[at + j / 8]);
+    bit_of(byte, 8, (j % 8) as u32) as u32
+}
+
+// Bit k, counted from the highest from 0, of a number of w bits.
+fn bit_of(x: u64, w: u32, k: u32) -> u64
+    requires { ⌜ (k < w) × (w ≤ 32) ⌝ }
+    ensures { λ r. ⌜ (r ≡ x / 2 ^ (w - 1 - k) % 2) × (r < 2) ⌝ }
+{
+    (x >> (w - 1 - k)) % 2
+}
+
+// Zeros, so that a bit is set by being put in, and those that are not put in are zero.
+fn clear(s: &mut [u8])
+    ensures { λ _. ⌜ ((i : ℕ) → getD (now (s .exit)) i 0 ≡ 0) ⌝ }
+{
+    let mut i: usize = 0;
+    while i < s.len() {
+        s[i] = 0;
+        i += 1;
+    }
 }
 
 fn takes_room(w: u32, n: usize, at: usize, room: usize) -> bool
@@ -183,18 +203,11 @@ fn has_bits(c: i64, w: u32) -> bool
     if c < 0 {
         return false;
     }
-    number_of(c) < two_to(w)
+    number_of(c) < 1u64 << w
 }
 
 pub fn number_of(c: i64) -> u64
     ensures { λ r. ⌜ r ≡ number c ⌝ }
 {
     if c < 0 { 0 } else { c as u64 }
-}
-
-fn two_to(w: u32) -> u64
-    requires { ⌜ w < 64 ⌝ }
-    ensures { λ r. ⌜ r ≡ 2 ^ w ⌝ }
-{
-    1u64 << w
 }

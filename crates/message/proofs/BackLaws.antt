@@ -23,8 +23,7 @@ use lib.ListN.{length, take, drop, length-take, length-drop, length-append}
 use lib.Seq.{take-take, take-length, take-append-seam, drop-append-seam}
 use Rattle.bucket.specs.Digits.{joined}
 use Rattle.bucket.specs.Lists.{over, part}
-use Rattle.bucket.proofs.OverLaws.{part-over}
-use Rattle.bucket.proofs.WindowLaws.{part-part}
+use Rattle.bucket.proofs.OverLaws.{part-over, part-part}
 use Rattle.message.specs.declared.kinds.Message.{Message}
 use Rattle.message.specs.declared.kinds.Message.the-variants.{Ibf, IbfLast, Inquiry, Offer, Demand, Element, Done, Malformed}
 use Rattle.message.specs.declared.walking.Walked.{Walked}

@@ -16,7 +16,7 @@ use Rattle.bucket.proofs.DigitLaws.{groups-length, joined-groups}
 use Rattle.bucket.proofs.PackedLaws.{packed-length, unpacked-packed, packed-spare}
 use Rattle.bucket.proofs.RoomLaws.{takes-rest}
 use Rattle.bucket.proofs.TestLaws.{and-holds}
-use Rattle.bucket.proofs.WindowLaws.{bare-here}
+use Rattle.bucket.proofs.ReadLaws.{bare-here}
 use Rattle.message.specs.declared.kinds.Message.the-variants.{Ibf, IbfLast, Malformed}
 use Rattle.message.specs.Layout.{DEMAND, INQUIRY, OFFER, IBF, ELEMENT, IBF-LAST, DONE, Content, slice, inquiry, offer, demand, element, done, Good, Many, Slice, layout, framed, inSlice, sliceType, sliceBytes}
 use Rattle.message.specs.Reading.{field, content, head, sliceIn, sliceFits, parse, parseBody, parseSlice, parseInquiry, hashesFit}

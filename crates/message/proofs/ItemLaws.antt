@@ -22,7 +22,7 @@ use Rattle.bucket.specs.Packing.{takes, countersAt, counterAt}
 use Rattle.bucket.proofs.PackedLaws.{unpacked-length}
 use Rattle.bucket.proofs.RoomLaws.{bits-ahead}
 use Rattle.bucket.proofs.TestLaws.{cond-kept, cond-made, and-fails, and-holds}
-use Rattle.bucket.proofs.WindowLaws.{counter-here}
+use Rattle.bucket.proofs.ReadLaws.{counter-here}
 use Rattle.message.specs.declared.kinds.Message.the-variants.{Ibf, IbfLast, Inquiry, Offer, Demand, Element, Done}
 use Rattle.message.specs.Items.{numberAt, idAt, idsumAt, hashsumAt, counterOf, hashPart, contentOf}
 use Rattle.message.specs.Reading.{parse}

@@ -18,7 +18,7 @@ use lib.ListN.{length, take, drop, length-take, length-drop, length-append}
 use lib.Seq.{take-all, take-length, take-add, drop-drop}
 use Rattle.bucket.specs.Digits.{joined, Below}
 use Rattle.bucket.specs.Lists.{part}
-use Rattle.bucket.proofs.WindowLaws.{part-part}
+use Rattle.bucket.proofs.OverLaws.{part-part}
 use Rattle.message.specs.declared.kinds.Message.{Message}
 use Rattle.message.specs.declared.reader.Whole.the-variants.{Ends, Stops}
 use Rattle.message.specs.declared.walking.Walked.{Walked}

@@ -11,7 +11,7 @@ use lib.Dec.{leb}
 use lib.ListN.{length, drop, length-take, length-drop}
 use Rattle.bucket.specs.Digits.{joined}
 use Rattle.bucket.specs.Lists.{part}
-use Rattle.bucket.proofs.WindowLaws.{part-part}
+use Rattle.bucket.proofs.OverLaws.{part-part}
 use Rattle.message.specs.declared.kinds.Message.{Message}
 use Rattle.message.specs.declared.kinds.Message.the-variants.{Malformed}
 use Rattle.message.specs.declared.walking.Walked.the-variants.{Broken, End}

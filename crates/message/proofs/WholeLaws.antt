@@ -2,19 +2,19 @@
 -- Assumes nothing.
 use mathlib.Core.Path.{_≡_, sym, ap, ap₂, _∙_}
 use mathlib.Core.List.{List, [], _∷_, _++_, append-assoc, append-nil}
-use Prim.Native.Nat.{ℕ, zero, suc, _+_, _*_, _/_, _%_, _^_, _≤_, _<_}
-use native.Mathlib.Nat.{mod-eq-of-lt, mod-one, mul-one, mul-suc, mul-assoc, add-comm, mul-zero, div-one, mul-le-mul-left}
+use Prim.Native.Nat.{ℕ, zero, suc, _+_, _-_, _*_, _/_, _%_, _^_, _≤_, _<_}
+use native.Mathlib.Nat.{mod-eq-of-lt, mod-one, mul-one, mul-suc, mul-assoc, add-comm, mul-zero}
 use native.Mathlib.Omega.{arith}
 use lib.ListN.{length, take, drop, getD, take-append-drop}
 use lib.Seq.{take-at, drop-at, drop-drop}
 use lib.Pow.{pow-pos, high}
-use Rattle.bucket.specs.Digits.{joined, groups, bytesFor, spare, packed, unpacked, spareBits, Below}
+use Rattle.bucket.specs.Digits.{joined, groups, bytesFor, spare, packed, unpacked, spareBits, bitAt, Below}
 use Rattle.bucket.specs.Lists.{part}
-use Rattle.bucket.proofs.DigitLaws.{joined-lt, joined-groups, groups-append, groups-mod, groups-low, groups-joined, groups-length}
-use Rattle.bucket.proofs.PackedLaws.{packed-unpacked, packed-length}
-use Rattle.bucket.proofs.OverLaws.{part-length, number-lt}
+use Rattle.bucket.proofs.BitLaws.{part-bit}
+use Rattle.bucket.proofs.DigitLaws.{joined-lt, joined-bit, joined-groups, groups-append, groups-mod, groups-low, groups-joined, groups-length}
+use Rattle.bucket.proofs.PackedLaws.{packed-unpacked, packed-length, read-unpacked}
+use Rattle.bucket.proofs.OverLaws.{part-length, number-lt, part-part}
 use Rattle.bucket.proofs.RoomLaws.{bits-ahead}
-use Rattle.bucket.proofs.WindowLaws.{part-part, unpacked-at}
 use Rattle.message.specs.Reading.{field}
 
 pub whole : (k n : ℕ) → bytesFor (8 * k * n) ≡ k * n
@@ -142,15 +142,18 @@ packed-snoc k xs x =
 pub whole-length : (k : ℕ) (xs : List ℕ) → length (packed (8 * k) xs) ≡ k * length xs
 whole-length k xs = packed-length (8 * k) xs ∙ whole k (length xs)
 
--- item i of numbers of k bytes each
+-- item i of numbers of k bytes each: the number that has the bits of its bytes
 pub item : (k n : ℕ) (l : List ℕ) (i : ℕ) → i < n → length l ≡ k * n → getD (unpacked (8 * k) n l) i 0 ≡ field k (k * i) l
-item k n l i h len =
-    unpacked-at (8 * k) n l i (k * i) k 0 h (len ∙ sym (whole k n)) inside (omega arith) (omega (arith, mul-assoc 8 k i))
-    ∙ ap (λ (q : ℕ). q % 2 ^ (8 * k)) (div-one (field k (k * i) l))
-    ∙ mod-eq-of-lt (number-lt (k * i) l k inside)
+item k n l i h len = sym (read-unpacked (8 * k) n l (len ∙ sym (whole k n)) i (field k (k * i) l) h (record { below = number-lt (k * i) l k inside; bits = each }))
   where
     inside : k * i + k ≤ length l
-    inside = let one = mul-le-mul-left k h in omega (arith, rw mul-suc at one, len)
+    inside = omega (arith, bits-ahead k n i h, len)
+
+    each : (j : ℕ) → j < 8 * k → field k (k * i) l / 2 ^ (8 * k - 1 - j) % 2 ≡ bitAt 8 l (8 * k * i + j)
+    each j q =
+        let long = part-length (k * i) l k inside in
+        sym (joined-bit 8 (part (k * i) k l) j (omega arith) (omega (arith, long)) ∙ ap (λ (m : ℕ). field k (k * i) l / 2 ^ (8 * m - 1 - j) % 2) long)
+        ∙ part-bit (k * i) k l j q ∙ ap (λ (m : ℕ). bitAt 8 l (m + j)) (sym (mul-assoc 8 k i))
 
 -- number i of n of k bytes each, which stand in bs from a position on
 pub item-there : (k n at : ℕ) (bs : List ℕ) → at + k * n ≤ length bs → (i : ℕ) → i < n → getD (unpacked (8 * k) n (part at (k * n) bs)) i 0 ≡ field k (at + k * i) bs

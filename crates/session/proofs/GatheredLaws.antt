@@ -10,7 +10,7 @@ use lib.ListN.{length, getD, take, drop, drop-of-length-le}
 use lib.Seq.{length-take-le, drop-cons}
 use Rattle.bucket.specs.Digits.{joined, groups}
 use Rattle.bucket.specs.Lists.{part}
-use Rattle.bucket.proofs.WindowLaws.{part-part}
+use Rattle.bucket.proofs.OverLaws.{part-part}
 use Rattle.filter.specs.Lists.{select}
 use Rattle.filter.specs.Table.{hashesOf, firstEight, idsOf, position, holds}
 use Rattle.filter.proofs.TableLaws.{hashes-length, ids-length, hash-at, id-at}

@@ -1,49 +1,54 @@
--- `bucket::packing::counter` meets its contract: the bits of counter i stand in the bytes from `first` up to `last`, at most five, and the number
--- in these bytes, without the bits behind the counter and those before it, is the counter. Assumes nothing.
+-- `bucket::packing::counter` meets its contract. The invariant: c is the number whose k bits are packed bits w × i to w × i + k − 1. The measure is what
+-- is left of its bits. Assumes nothing.
 use mathlib.Core.Path.{_≡_}
-use Prim.Native.Nat.{_+_, _-_, _*_, _/_, _≤_, _<_, min}
-use native.Mathlib.Nat.{mod-lt, lt-of-lt-of-le}
+use Prim.Native.Nat.{_+_, _-_, _*_, _^_, _≤_, _<_}
+use native.Mathlib.Nat.{mod-lt}
 use lib.ListN.{length}
-use lib.Pow.{pow-pos, pow-mono}
+use lib.Pow.{pow-add, pow-mono}
+use Rattle.bucket.specs.Digits.{bitAt}
+use Rattle.bucket.proofs.BitLaws.{Read, read-next}
+use Rattle.bucket.proofs.ReadLaws.{counter-read}
 use Rattle.bucket.proofs.RoomLaws.{Room, room-reach}
-use Rattle.bucket.proofs.WindowLaws.{window-read}
 use native.Mathlib.Omega.{arith}
 use borrow.Author.Needs.{needs}
 use Rattle.bucket.proofs.packing.counter.Statement.{statement}
 use Rattle.bucket.proofs.packing.counter.Tie as tie
 
+abbrev Inv-loop : tie.InvT-loop
+Inv-loop s at n w i first c₀ k₀ c k = (k ≤ w) × Read (λ m. bitAt 8 s (8 * at + (w * i + m))) k c
+
+abbrev μ-loop : tie.MeasureT-loop
+μ-loop s at n w i first c₀ k₀ c k = w - k
+
 -- what the code may count on
-reach : (s : tie.Start) → let a = s .args in Room (a .w) (a .n) (a .at) (length (a .s .now)) × (a .w * a .i + a .w ≤ a .w * a .n)
+reach : (s : tie.Start Inv-loop μ-loop) → let a = s .args in Room (a .w) (a .n) (a .at) (length (a .s .now)) × (a .w * a .i + a .w ≤ a .w * a .n)
 reach s = room-reach _ _ _ _ _ (s .pre)
 
-div-result : tie.Need-div-result
-div-result c =
-    let some : 0 < c .two-to .result = rw (c .two-to .ensures) (pow-pos _) in
-    omega arith
+loop-holds : tie.Need-loop-holds Inv-loop μ-loop
+loop-holds c = (omega arith, record { below = omega arith; bits = λ m h. absurd (omega arith) })
 
-rem-result : tie.Need-rem-result
-rem-result c = omega (arith, c .two-to2 .ensures, pow-pos (c .before .before .before .before .args .w))
+-- a number of k + 1 bits fits
+fits : (c : tie.In-loop Inv-loop μ-loop) → 2 * 2 ^ c .before .loop .k ≤ 2 ^ 32
+fits c = let k = c .before .loop .k in let r = reach (c .before .before .before) in omega (arith, pow-add 2 k 1, pow-mono {i = k + 1} {j = 32} (omega arith))
 
-cast-result : tie.Need-cast-result
-cast-result c =
-    let a = c .before .before .before .before .args in
-    let r = reach (c .before .before .before .before) in
-    record { fits = rw (c .two-to2 .ensures) (lt-of-lt-of-le (mod-lt _ (pow-pos (a .w))) (pow-mono {i = a .w} {j = 32} (omega arith))) }
+small : (c : tie.After-bit-at Inv-loop μ-loop) → c .bit-at .result < 2
+small c = rw (c .bit-at .ensures) (mod-lt _ (omega arith))
 
-returns : tie.Need-returns
+loop-again : tie.Need-loop-again Inv-loop μ-loop
+loop-again c = (omega arith, read-next (c .before .before .loop .inv .1) (c .bit-at .result) (small c) (c .bit-at .ensures))
+
+returns : tie.Need-returns Inv-loop μ-loop
 returns c =
-    let s = c .before .before .before .before in
+    let s = c .before .before .before in
     let a = s .args in
-    let n = (a .w * a .i + a .w + 7) / 8 - a .w * a .i / 8 in
-    let few : min 8 n ≡ n = omega (arith, reach s) in
-    rw (c .before .before .number-at .ensures, few, c .before .two-to .ensures, c .two-to2 .ensures)
-    (window-read (a .w) (a .n) (a .at) (a .s .now) (reach s .0) (a .i) (s .pre .1))
+    let at = c .before .loop in
+    let end : at .k ≡ a .w = omega arith in
+    counter-read (a .w) (a .n) (a .at) (a .s .now) (reach s .0) (a .i) (at .c) (s .pre .1) (rw end at (at .inv .1))
 
 pub counter-spec : {M : Type 1} → statement M
 counter-spec =
     tie.close
     (tie.spec
-    (λ c. omega (arith, reach (c .before))) (λ c. omega (arith, reach (c .before))) (λ c. omega (arith, reach (c .before)))
-    (λ c. omega (arith, reach (c .before))) (λ c. search needs) (λ c κs. search needs) (λ c. omega (arith, reach (c .before .before)))
-    (λ c. search needs) (λ c. search needs) (λ c. search needs) (λ c κs. search needs) div-result
-    (λ c κs. omega (arith, reach (c .before .before .before))) rem-result cast-result returns)
+    Inv-loop μ-loop (λ c. omega (arith, reach (c .before))) loop-holds (λ c. search needs) (λ c. omega (arith, reach (c .before .before .before)))
+    (λ c. omega (arith, fits c, c .before .loop .inv .1 .below)) (λ c κs. omega (arith, reach (c .before .before .before)))
+    (λ c. omega (arith, fits (c .before), small c, c .before .before .loop .inv .1 .below)) (λ c. search needs) (λ c. search needs) loop-again returns)

@@ -1,7 +1,7 @@
 -- `bucket::packing::counter_at` meets its contract: the counter where there is one, and past the last one there is none. Assumes nothing.
 use mathlib.Core.Path.{_∙_}
 use Rattle.bucket.proofs.TestLaws.{test-refused, test-granted}
-use Rattle.bucket.proofs.WindowLaws.{counter-not, counter-here, counter-past}
+use Rattle.bucket.proofs.ReadLaws.{counter-not, counter-here, counter-past}
 use native.Mathlib.Omega.{arith}
 use borrow.Author.Needs.{needs}
 use Rattle.bucket.proofs.packing.counter_at.Statement.{statement}

@@ -1,11 +1,17 @@
 -- `bucket::packing::pack` meets its contract: each early return is where one of the two tests of the contract is false. Assumes nothing.
 use mathlib.Core.Path.{_≡_, ap, _∙_}
 use mathlib.Core.Bool.{Bool, true, _&&_}
-use lib.ListN.{length}
-use Rattle.bucket.specs.Packing.{fitsIn, takes, packInto, packEnd}
-use Rattle.bucket.proofs.RoomLaws.{takes-fits}
+use Prim.Native.Nat.{ℕ, _+_, _-_, _*_}
+use lib.ListN.{length, length-map}
+use Rattle.bucket.specs.Digits.{bytesFor, packed}
+use Rattle.bucket.specs.Packing.{number, numbers, fitsIn, takes, packInto, packEnd}
+use Rattle.bucket.proofs.OverLaws.{over-part}
+use Rattle.bucket.proofs.PackedLaws.{packed-length}
+use Rattle.bucket.proofs.RoomLaws.{Room, takes-room, takes-fits}
 use Rattle.bucket.proofs.TestLaws.{and-fails, and-holds, cond-kept, cond-made, test-refused, test-granted}
+use native.Mathlib.Omega.{arith}
 use borrow.Author.Needs.{needs}
+use borrow.Rule.Slice.PartMut.{mid-len}
 use Rattle.bucket.proofs.packing.pack.Statement.{statement}
 use Rattle.bucket.proofs.packing.pack.Tie as tie
 
@@ -33,19 +39,30 @@ returns-2 c =
     (test-refused (fitting (c .before)) (c .if2 .taken)) in
     (cond-kept _ _ no, cond-kept _ _ no)
 
-pack-all-requires : tie.Need-pack-all-requires
-pack-all-requires c κs = (test-granted (fitting (c .before .before)) (c .before .if2 .left), there (c .before .before .before))
+fit : (c : tie.Else2) → let a = c .before .before .before .before .before .args in Room (a .w) (length (a .counts .now)) (a .at) (length (a .out .now))
+fit c = takes-room _ _ _ _ (there (c .before .before))
+
+pack-bits-requires : tie.Need-pack-bits-requires
+pack-bits-requires c κs =
+    let a = c .before .before .before .before .before .before .args in
+    let r = fit (c .before) in
+    let bytes = bytesFor (a .w * length (a .counts .now)) in
+    let same : a .at + bytes - a .at ≡ bytes = omega arith in
+    (r .some, r .most, r .few, mid-len (a .at) (a .at + bytes) (a .out .now) (r .inside) ∙ same)
 
 returns-3 : tie.Need-returns-3
 unfolding packInto packEnd
 returns-3 c =
     let fits = c .before .before .before .before in
+    let a = fits .before .before .before .before .before .args in
+    let xs = numbers (a .counts .now) in
     let yes = and-holds (test-granted (fitting (fits .before)) (fits .if2 .left)) (there (fits .before .before)) in
-    let r = c .before .before .pack-all .ensures in
-    (r .0 ∙ cond-made _ _ yes, r .1 ∙ cond-made _ _ yes)
+    let bytes : length (packed (a .w) xs) ≡ bytesFor (a .w * length (a .counts .now)) = packed-length (a .w) xs ∙ ap (λ (n : ℕ). bytesFor (a .w * n)) (length-map (a .counts .now) number) in
+    (cond-made _ _ yes, rw (c .before .before .pack-bits .ensures) (over-part (a .at) (a .at + bytesFor (a .w * length (a .counts .now))) (packed (a .w) xs) (a .out .now) (ap (λ (n : ℕ). a .at + n) bytes)) ∙ cond-made _ _ yes)
 
 pub pack-spec : {M : Type 1} → statement M
 pack-spec =
     tie.close
     (tie.spec
-    (λ c κs. search needs) returns (λ c κs. search needs) returns-2 pack-all-requires (λ c. search needs) returns-3)
+    (λ c κs. search needs) returns (λ c κs. search needs) returns-2 (λ c. omega (arith, fit c)) (λ c. omega (arith, fit c)) (λ c. omega (arith, fit c))
+    (λ c. search needs) (λ c. search needs) (λ c. omega (arith, fit c)) pack-bits-requires (λ c. search needs) returns-3)
