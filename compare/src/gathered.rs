@@ -31,6 +31,13 @@ impl Gathered {
         self.kinds.values().sum()
     }
 
+    /// Each kind and how often it was met, in words.
+    pub fn by_kind(&self) -> String {
+        let kinds = self.kinds.iter();
+        let told: Vec<String> = kinds.map(|(kind, n)| format!("{n} {kind}")).collect();
+        told.join(", ")
+    }
+
     /// From now on a difference stops the program again; whether there has been none.
     pub fn end(&mut self) -> bool {
         self.on = false;

@@ -1,5 +1,6 @@
 //! Compares the proved library with the model on fixed random inputs: exit 0 means no difference.
 
+mod bits;
 mod buckets;
 mod building;
 mod chains;
@@ -186,6 +187,7 @@ fn usage() {
 /// A tally of nothing yet, once the model has been held to what is known.
 fn begin() -> Tally {
     let checked = known::check_model()
+        .and_then(|()| bits::check_sentence())
         .and_then(|()| known_filters::check_model())
         .and_then(|()| estimates::check_model())
         .and_then(|()| messages::check_model());
@@ -219,7 +221,9 @@ fn mutate(calls: &str, seed: &str) {
 
 /// Puts stand-ins in the place of the library, each with one fault: the comparison must find it.
 fn stand_ins() {
-    if !sessions::stand_ins::are_caught(begin) {
+    let packing = bits::stand_ins::are_caught(begin);
+    let sessions = sessions::stand_ins::are_caught(begin);
+    if !packing || !sessions {
         println!("a stand-in was not caught, or one without a fault was");
         exit(1);
     }
@@ -256,6 +260,7 @@ fn compare_lower_layers(tally: &mut Tally) {
     numbers::compare(tally);
     packing::compare(tally);
     reading::compare(tally);
+    bits::compare(tally);
     buckets::compare(tally);
     tables::compare(tally);
     building::compare(tally);

@@ -1,7 +1,7 @@
 //! Messages: the model of each (layout.rs, writers.rs, items.rs), the comparisons, and how many of
 //! each kind there must be.
 
-mod calls;
+pub mod calls;
 mod crafted;
 mod damage;
 mod filters;
