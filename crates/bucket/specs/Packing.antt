@@ -10,7 +10,7 @@
 --   unpackInto ..         a column with the counters that stand in s laid into it
 --
 -- Where the counts do not fit the width, or the bytes or the column are too short, nothing is written.
--- Laws (proofs/RoundLaws): packed-back, packed-bare: what was packed into memory is read back.
+-- Laws (proofs/RoundLaws): bit-written, spare-written, bit-read: where each bit stands in memory; packed-back, packed-bare: what was packed is read back.
 -- Assumes nothing.
 use mathlib.Core.Bool.{Bool, true, false, _&&_, cond}
 use mathlib.Core.List.{List, [], _∷_, map}
