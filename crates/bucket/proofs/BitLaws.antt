@@ -21,18 +21,25 @@ use Rattle.bucket.proofs.TestLaws.{each-more}
 
 -- ---- the same bits
 
-pub same-number : (v : ℕ) {x y : ℕ} → x < 2 ^ v → y < 2 ^ v → ((p : ℕ) → p < v → x / 2 ^ p % 2 ≡ y / 2 ^ p % 2) → x ≡ y
+-- the bits of a number of one bit more: those of its half, and behind them its last
+half-bit : (w v z k : ℕ) → w ≡ v + 1 → k < v → z / 2 ^ (w - 1 - k) % 2 ≡ z / 2 / 2 ^ (v - 1 - k) % 2
+half-bit w v z k e h =
+    let above : w - 1 - k ≡ 1 + (v - 1 - k) = omega arith in
+    ap (λ (n : ℕ). z / 2 ^ n % 2) above ∙ ap (λ (q : ℕ). q % 2) (sym (shr-shr z 1 (v - 1 - k)))
+
+last-bit : (w v z : ℕ) → w ≡ v + 1 → z / 2 ^ (w - 1 - v) % 2 ≡ z % 2
+last-bit w v z e = let none : w - 1 - v ≡ 0 = omega arith in ap (λ (n : ℕ). z / 2 ^ n % 2) none ∙ ap (λ (q : ℕ). q % 2) (div-one z)
+
+pub same-number : (v : ℕ) {x y : ℕ} → x < 2 ^ v → y < 2 ^ v → ((k : ℕ) → k < v → x / 2 ^ (v - 1 - k) % 2 ≡ y / 2 ^ (v - 1 - k) % 2) → x ≡ y
 same-number zero hx hy e = omega arith
 same-number (suc v) {x} {y} hx hy e =
-    let last : x % 2 ≡ y % 2 = ap (λ (q : ℕ). q % 2) (sym (div-one x)) ∙ e 0 (omega arith) ∙ ap (λ (q : ℕ). q % 2) (div-one y) in
-    let others : x / 2 ≡ y / 2 = same-number v (half hx) (half hy) (λ p h. above x p ∙ e (1 + p) (omega arith) ∙ sym (above y p)) in
+    let more : suc v ≡ v + 1 = omega arith in
+    let last : x % 2 ≡ y % 2 = sym (last-bit (suc v) v x more) ∙ e v (omega arith) ∙ last-bit (suc v) v y more in
+    let others : x / 2 ≡ y / 2 = same-number v (half hx) (half hy) (λ k h. sym (half-bit (suc v) v x k more h) ∙ e k (omega arith) ∙ half-bit (suc v) v y k more h) in
     omega arith
   where
     half : {z : ℕ} → z < 2 ^ suc v → z / 2 < 2 ^ v
     half {z} h = shr-lt v 1 (subst (λ (n : ℕ). z < 2 ^ n) (omega arith) h)
-
-    above : (z p : ℕ) → z / 2 / 2 ^ p % 2 ≡ z / 2 ^ (1 + p) % 2
-    above z p = ap (λ (q : ℕ). q % 2) (shr-shr z 1 p)
 
 -- bit k of number i is bit v × i + k of them all
 pub bit-place : (v : ℕ) (xs : List ℕ) (i k : ℕ) → k < v → bitAt v xs (v * i + k) ≡ getD xs i 0 / 2 ^ (v - 1 - k) % 2
@@ -41,13 +48,9 @@ bit-place v xs i k h =
     (mul-add-div (omega arith) i k ∙ ap (λ (q : ℕ). i + q) (div-eq-of-lt h) ∙ add-zero i) (mul-add-mod-self-left v i k ∙ mod-eq-of-lt h)
 
 pub same-bits : (v : ℕ) (xs ys : List ℕ) → Below v xs → Below v ys → length xs ≡ length ys → ((j : ℕ) → j < v * length xs → bitAt v xs j ≡ bitAt v ys j) → xs ≡ ys
-same-bits v xs ys hx hy l e = ext-getD 0 xs ys l (λ i h. same-number v (hx i) (hy i) (each i h))
-  where
-    each : (i : ℕ) → i < length xs → (p : ℕ) → p < v → getD xs i 0 / 2 ^ p % 2 ≡ getD ys i 0 / 2 ^ p % 2
-    each i h p q =
-        let back : v - 1 - (v - 1 - p) ≡ p = omega arith in
-        rw back at (sym (bit-place v xs i (v - 1 - p) (omega arith)) ∙ e (v * i + (v - 1 - p)) (omega (arith, bits-ahead v (length xs) i h))
-        ∙ bit-place v ys i (v - 1 - p) (omega arith))
+same-bits v xs ys hx hy l e =
+    ext-getD 0 xs ys l (λ i h. same-number v (hx i) (hy i)
+    (λ k q. sym (bit-place v xs i k q) ∙ e (v * i + k) (omega (arith, bits-ahead v (length xs) i h)) ∙ bit-place v ys i k q))
 
 -- the bits of a part of bytes
 pub part-bit : (at k : ℕ) (l : List ℕ) (j : ℕ) → j < 8 * k → bitAt 8 (part at k l) j ≡ bitAt 8 l (8 * at + j)
@@ -64,20 +67,14 @@ pub record Read (bit : ℕ → ℕ) (k x : ℕ) : Type 0 where
 
 pub read-next : {bit : ℕ → ℕ} {k x : ℕ} → Read bit k x → (b : ℕ) → b < 2 → b ≡ bit k → Read bit (k + 1) (2 * x + b)
 read-next {bit = bit} {k = k} {x = x} r b small e =
-    record { below = omega (arith, r .below, pow-add 2 k 1); bits = each-more (λ (m : ℕ). (2 * x + b) / 2 ^ (k + 1 - 1 - m) % 2 ≡ bit m) k before (here ∙ e) }
-  where
-    before : (m : ℕ) → m < k → (2 * x + b) / 2 ^ (k + 1 - 1 - m) % 2 ≡ bit m
-    before m h =
-        let above : k + 1 - 1 - m ≡ 1 + (k - 1 - m) = omega arith in
-        let half : (2 * x + b) / 2 ≡ x = omega arith in
-        ap (λ (n : ℕ). (2 * x + b) / 2 ^ n % 2) above
-        ∙ ap (λ (q : ℕ). q % 2) (sym (shr-shr (2 * x + b) 1 (k - 1 - m))) ∙ ap (λ (q : ℕ). q / 2 ^ (k - 1 - m) % 2) half ∙ r .bits m h
-
-    here : (2 * x + b) / 2 ^ (k + 1 - 1 - k) % 2 ≡ b
-    here =
-        let none : k + 1 - 1 - k ≡ 0 = omega arith in
-        let last : (2 * x + b) % 2 ≡ b = omega arith in
-        ap (λ (n : ℕ). (2 * x + b) / 2 ^ n % 2) none ∙ ap (λ (q : ℕ). q % 2) (div-one (2 * x + b)) ∙ last
+    let half : (2 * x + b) / 2 ≡ x = omega arith in
+    let last : (2 * x + b) % 2 ≡ b = omega arith in
+    record {
+      below = omega (arith, r .below, pow-add 2 k 1);
+      bits = each-more (λ (m : ℕ). (2 * x + b) / 2 ^ (k + 1 - 1 - m) % 2 ≡ bit m) k
+          (λ m h. half-bit (k + 1) k (2 * x + b) m refl h ∙ ap (λ (q : ℕ). q / 2 ^ (k - 1 - m) % 2) half ∙ r .bits m h)
+          (last-bit (k + 1) k (2 * x + b) refl ∙ last ∙ e);
+    }
 
 -- ---- bytes, written
 

@@ -82,21 +82,16 @@ module _ (w n : ℕ) (bs : List ℕ) (l : length bs ≡ bytesFor (w * n)) where
   -- no other number is counter i
   pub read-unpacked : (i x : ℕ) → i < n → Read (λ k. bitAt 8 bs (w * i + k)) w x → x ≡ getD (unpacked w n bs) i 0
   unfolding unpacked
-  read-unpacked i x h r = same-number w (r .below) (groups-below w n _ i) each
-    where
-      each : (p : ℕ) → p < w → x / 2 ^ p % 2 ≡ getD (unpacked w n bs) i 0 / 2 ^ p % 2
-      each p q =
-          let k = w - 1 - p in
-          let back : w - 1 - k ≡ p = omega arith in
-          let ahead = bits-ahead w n i h in
-          rw back at (r .bits k (omega arith) ∙ sym (unpacked-bit (w * i + k) (omega arith) (omega arith)) ∙ bit-place w (unpacked w n bs) i k (omega arith))
+  read-unpacked i x h r =
+      same-number w (r .below) (groups-below w n _ i)
+      (λ k q. r .bits k q ∙ sym (unpacked-bit (w * i + k) (omega arith) (omega (arith, bits-ahead w n i h))) ∙ bit-place w (unpacked w n bs) i k q)
 
   -- the bits behind the counters are those of `spareBits`
   spare-bit : (j : ℕ) → w * n ≤ j → j < 8 * length bs → spareBits w n bs / 2 ^ (8 * bytesFor (w * n) - 1 - j) % 2 ≡ bitAt 8 bs j
   unfolding spareBits
   spare-bit j le lt = part-mod (joined 8 bs) (8 * bytesFor (w * n) - 1 - j) 1 (spare (w * n)) (omega (arith, l)) ∙ sym (byte-bit j lt)
 
-  -- they are zero where each of them is
+  -- they are zero exactly where each of them is
   pub spare-zero : spareBits w n bs ≡ 0 → (j : ℕ) → w * n ≤ j → j < 8 * length bs → bitAt 8 bs j ≡ 0
   spare-zero z j le lt = sym (spare-bit j le lt) ∙ ap (λ (q : ℕ). q / 2 ^ (8 * bytesFor (w * n) - 1 - j) % 2) z ∙ ap (λ (q : ℕ). q % 2) (zero-div (2 ^ (8 * bytesFor (w * n) - 1 - j)))
 
@@ -104,12 +99,11 @@ module _ (w n : ℕ) (bs : List ℕ) (l : length bs ≡ bytesFor (w * n)) where
   unfolding spareBits
   spare-none z = same-number (spare (w * n)) (mod-lt (joined 8 bs) (pow-pos (spare (w * n)))) (pow-pos (spare (w * n))) each
     where
-      each : (p : ℕ) → p < spare (w * n) → spareBits w n bs / 2 ^ p % 2 ≡ 0 / 2 ^ p % 2
-      each p q =
-          let j = 8 * bytesFor (w * n) - 1 - p in
-          let back : 8 * bytesFor (w * n) - 1 - j ≡ p = omega arith in
-          ap (λ (e : ℕ). spareBits w n bs / 2 ^ e % 2) (sym back) ∙ spare-bit j (omega arith) (omega (arith, l)) ∙ z j (omega arith) (omega (arith, l))
-          ∙ ap (λ (q : ℕ). q % 2) (sym (zero-div (2 ^ p)))
+      each : (k : ℕ) → k < spare (w * n) → spareBits w n bs / 2 ^ (spare (w * n) - 1 - k) % 2 ≡ 0 / 2 ^ (spare (w * n) - 1 - k) % 2
+      each k q =
+          let same : spare (w * n) - 1 - k ≡ 8 * bytesFor (w * n) - 1 - (w * n + k) = omega arith in
+          ap (λ (e : ℕ). spareBits w n bs / 2 ^ e % 2) same ∙ spare-bit (w * n + k) (omega arith) (omega (arith, l)) ∙ z (w * n + k) (omega arith) (omega (arith, l))
+          ∙ ap (λ (v : ℕ). v % 2) (sym (zero-div (2 ^ (spare (w * n) - 1 - k))))
 
 module _ (w : ℕ) (xs : List ℕ) where
   -- packed bit j is bit j mod w, both counted from the highest from 0, of counter j / w rounded down: of the bytes written
