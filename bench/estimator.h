@@ -57,7 +57,7 @@ tandawire_estimation c_estimate(uint64_t *ids, size_t ids_room, uint32_t *hashes
                                 const int64_t *second_counts, size_t second_counts_room)
 {
     struct reading r;
-    tandawire_estimation answer = {1, 0};
+    tandawire_estimation answer = {1, 0, 0};
 
     if (counts_are_wide(counts, counts_room, PLACES) ||
         counts_are_wide(second_counts, second_counts_room, PLACES))
@@ -67,6 +67,7 @@ tandawire_estimation c_estimate(uint64_t *ids, size_t ids_room, uint32_t *hashes
         second_ids_room < PLACES || second_hashes_room < PLACES || second_counts_room < PLACES)
         return answer;
     answer.refusal = 0;
+    answer.known = 1;
 
     for (size_t i = 0; i < PLACES; i++) {
         ids[i] ^= second_ids[i];
@@ -78,6 +79,7 @@ tandawire_estimation c_estimate(uint64_t *ids, size_t ids_room, uint32_t *hashes
         uint32_t from = BUCKETS * i;
         int listed = read_stratum(&r, ids + from, hashes + from, counts + from);
         if (listed < 0) {
+            answer.known = answer.estimate > 0;
             answer.estimate <<= i + 1;
             break;
         }

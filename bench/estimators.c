@@ -7,103 +7,12 @@
 #define _POSIX_C_SOURCE 199309L
 #include "jobs.h"
 
-#include "../include/tandawire.h"
-#include "estimator.h"
+#include "lent.h"
 #include "row.h"
-#include "tables.h"
-
-/* ---- The tables and columns of a job or a check ---- */
-
-static struct tables tables;
-
-/* With some places behind, which no call may touch. */
-enum { ROOM = PLACES + 8 };
-
-struct columns {
-    uint64_t ids[ROOM];
-    int64_t counts[ROOM];
-    uint32_t hashes[ROOM];
-};
-
-/* What is lent to an estimate. A building gets the first columns alone. */
-struct lent {
-    struct columns first, second;
-};
-
-static const struct side {
-    uint32_t (*build)(const uint8_t *, size_t, uint64_t *, size_t, uint32_t *, size_t, int64_t *,
-                      size_t);
-    tandawire_estimation (*estimate)(uint64_t *, size_t, uint32_t *, size_t, int64_t *, size_t,
-                                     const uint64_t *, size_t, const uint32_t *, size_t,
-                                     const int64_t *, size_t);
-} sides[2] = {{tandawire_estimator_build, tandawire_estimate}, {c_estimator_build, c_estimate}};
-
-/* The columns given, and what each side leaves of them. */
-static struct lent given, left[2];
-
-/* The length each slice is said to have: IDs, hashes and counts of the first and the second. */
-static const size_t whole[6] = {ROOM, ROOM, ROOM, ROOM, ROOM, ROOM};
-
-static uint32_t build(int side, const uint8_t *table, size_t length, struct columns *c,
-                      const size_t room[6])
-{
-    return sides[side].build(table, length, c->ids, room[0], c->hashes, room[1], c->counts,
-                             room[2]);
-}
-
-static tandawire_estimation estimate(int side, struct lent *l, const size_t room[6])
-{
-    struct columns *a = &l->first, *b = &l->second;
-    return sides[side].estimate(a->ids, room[0], a->hashes, room[1], a->counts, room[2], b->ids,
-                                room[3], b->hashes, room[4], b->counts, room[5]);
-}
-
-/* Noise everywhere, then our estimator and theirs in the columns, by the C. */
-static void receive(void)
-{
-    memset(&given, 0xA5, sizeof given);
-    build(1, tables.ours, tables.ours_length, &given.first, whole);
-    build(1, tables.theirs, tables.theirs_length, &given.second, whole);
-}
 
 /* ---- The check ---- */
 
 static crc_tables t;
-
-/* Whether both sides answer the building of our table so, and leave the same. */
-static int builds(const size_t room[6], uint32_t refusal)
-{
-    for (int i = 0; i < 2; i++) {
-        left[i] = given;
-        if (build(i, tables.ours, tables.ours_length, &left[i].first, room) != refusal)
-            return 0;
-    }
-    return memcmp(&left[0], &left[1], sizeof left[0]) == 0 &&
-           (refusal == 0 || memcmp(&left[0], &given, sizeof given) == 0);
-}
-
-/* Whether both sides answer an estimate alike and leave the same, the second as it was and, if
- * they refuse, everything. */
-static int agree(const size_t room[6], tandawire_estimation *answer)
-{
-    tandawire_estimation a[2];
-    for (int i = 0; i < 2; i++) {
-        left[i] = given;
-        a[i] = estimate(i, &left[i], room);
-    }
-    *answer = a[0];
-    return memcmp(&left[0], &left[1], sizeof left[0]) == 0 && a[0].refusal == a[1].refusal &&
-           a[0].estimate == a[1].estimate &&
-           memcmp(&left[0].second, &given.second, sizeof given.second) == 0 &&
-           (a[0].refusal == 0 || memcmp(&left[0], &given, sizeof given) == 0);
-}
-
-/* The same with the answer known. */
-static int answers(const size_t room[6], uint32_t refusal, uint64_t estimate)
-{
-    tandawire_estimation a;
-    return agree(room, &a) && a.refusal == refusal && a.estimate == estimate;
-}
 
 /* Clears up to 32 low bits of each ID, the same ones in both tables: all strata are met. */
 static void deepen(uint8_t *table, size_t length)
@@ -131,11 +40,11 @@ static int differences_agree(void)
             }
             receive();
             if (!builds(whole, 0) || !agree(whole, &a) || a.refusal != 0 ||
-                (d < 3 && a.estimate != d))
+                (d < 3 && a.estimate != d) || (a.known && a.estimate == 0) != (d == 0))
                 return 0;
-            exact += a.estimate == d;
-            none += d > 0 && a.estimate == 0;
-            other += a.estimate != d && a.estimate != 0;
+            exact += a.known && a.estimate == d;
+            none += !a.known;
+            other += a.known && a.estimate != d;
         }
     /* ID 0 is one as any other, in stratum 31. */
     make(&tables, 0, 1, 0);
@@ -195,6 +104,31 @@ static int one_column_agrees(void)
     return 1;
 }
 
+/* Equal estimators but for one stratum, stuck or false, the second time with an ID above it. */
+static int first_to_fail_agrees(uint32_t stratum, int falsely)
+{
+    receive();
+    if (falsely)
+        plant(&given.second, stratum, draw(), 1);
+    else
+        given.first.counts[BUCKETS * stratum] += 2;
+    if (!is_unknown() || stratum_is_zero(&left[0].first, stratum) != falsely)
+        return 0;
+    if (stratum + 1 == STRATA)
+        return 1;
+    plant(&given.first, stratum + 1, draw(), 0);
+    return answers(whole, 0, UINT64_C(2) << stratum);
+}
+
+static int unknown_agree(void)
+{
+    make(&tables, 300, 0, 0);
+    for (uint32_t stratum = 0; stratum < STRATA; stratum++)
+        if (!first_to_fail_agrees(stratum, 0) || !first_to_fail_agrees(stratum, 1))
+            return 0;
+    return 1;
+}
+
 /* Estimators no table makes, each with its answer. */
 static int tampered_agree(void)
 {
@@ -224,7 +158,7 @@ static int tampered_agree(void)
     if (!answers(whole, 0, UINT64_C(3) << 31))
         return 0;
     plant(&given.second, 31, draw(), 1);
-    return answers(whole, 0, 0);
+    return is_unknown();
 }
 
 /* Honest estimators spoilt at random, with few and with many changes, and columns of noise. */
@@ -252,7 +186,7 @@ static int spoilt_agree(void)
         given.first.hashes[b] = (uint32_t)draw();
         given.first.counts[b] = (int64_t)(draw() >> 32);
     }
-    return answers(whole, 0, 0);
+    return is_unknown();
 }
 
 /* As many peels in a stratum as buckets, which may be made; one more; and an ID found again. */
@@ -329,8 +263,8 @@ static int refusals_agree(void)
 static int check(void)
 {
     make_tables(t);
-    return differences_agree() && tampered_agree() && spoilt_agree() && rows_agree() &&
-           refusals_agree();
+    return differences_agree() && unknown_agree() && tampered_agree() && spoilt_agree() &&
+           rows_agree() && refusals_agree();
 }
 
 /* ---- The jobs ---- */
@@ -340,17 +274,27 @@ static int check(void)
 #define ESTIMATE(ours, theirs, limit)                                                          \
     {"estimate_" #ours "_" #theirs, "estimate " #ours " + " #theirs, "tandawire_estimate",     \
      "c_estimate", 0, 4096 - ours, ours, theirs, limit, 0}
+/* Equal tables, and something that no peel takes in the first place of a stratum. */
+#define UNKNOWN(stratum, limit)                                                                \
+    {"unknown_" #stratum, "estimate, unknown at stratum " #stratum, "tandawire_estimate",      \
+     "c_estimate", 0, 4096, 0, 0, limit, 0}
 
 static const struct job jobs[] = {
     {"build", "build the estimator of 4096", "tandawire_estimator_build", "c_estimator_build", 0,
      4096, 0, 0, 1000000, 0},
     ESTIMATE(0, 0, 200000),      ESTIMATE(5, 5, 210000),      ESTIMATE(50, 50, 260000),
     ESTIMATE(1000, 0, 230000),   ESTIMATE(500, 500, 250000),  ESTIMATE(4096, 4096, 235000),
+    UNKNOWN(31, 150000),         UNKNOWN(0, 200000),
 };
 
 static int is_build(const struct job *job)
 {
     return job == &jobs[0];
+}
+
+static uint32_t is_unknown_job(const struct job *job)
+{
+    return strncmp(job->name, "unknown_", strlen("unknown_")) == 0;
 }
 
 /* The C must answer what the library did. */
@@ -367,7 +311,8 @@ static double time_of(const struct job *job, int side, uint32_t n)
     else
         e[side] = estimate(side, &left[side], whole);
     clock_gettime(CLOCK_MONOTONIC, &b);
-    if (e[side].refusal != 0 || (side == 1 && e[0].estimate != e[1].estimate))
+    if (e[side].refusal != 0 || (!is_build(job) && e[side].known == is_unknown_job(job)) ||
+        (side == 1 && e[0].estimate != e[1].estimate))
         return -1;
     return nanoseconds(a, b);
 }
@@ -382,6 +327,8 @@ static void prepare(const struct job *job, uint32_t n)
     memset(&given, 0, sizeof given);
     if (!is_build(job))
         receive();
+    if (is_unknown_job(job))
+        given.first.counts[BUCKETS * strtoul(job->name + strlen("unknown_"), NULL, 10)] += 2;
 }
 
 int main(int argc, char **argv)

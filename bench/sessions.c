@@ -98,7 +98,7 @@ enum { JOBS = sizeof jobs / sizeof jobs[0], STEPS = sizeof steps / sizeof steps[
 /* The size that a caller who knows the difference would take. */
 static uint32_t size_of(const struct job *job)
 {
-    return tandawire_size_for(job->ours + job->theirs, job->ours && job->theirs ? 3 : 2);
+    return tandawire_size_for(tandawire_known(job->ours + job->theirs), job->ours && job->theirs ? 3 : 2);
 }
 
 /* A session as it was before the step, and the message. */

@@ -96,7 +96,7 @@ static void make_elements(struct store *s, unsigned peers)
 struct report {
     int peer, session, tries;
     uint32_t size, salt, swaps, steps;
-    uint64_t estimate;
+    tandawire_estimation estimate;
     size_t before, now, contents;                /* elements held before and after; bytes of those before */
     size_t sent_estimators, sent_elements, sent; /* bytes of frames: of these two, and of all */
     uint8_t hash[SHA512_BYTES];                  /* of the whole table, at the end */
@@ -142,7 +142,8 @@ static tandawire_stepped start_as_receiver(void)
 }
 
 /* The end that sends its filter: takes the far end's estimator and chooses a size by it. Three times the
- * estimate, since both may lack something; twice in the last round, where one holds all. One more a try. */
+ * estimate, since both may lack something; twice in the last round, where one holds all. One more a try.
+ * What it does where the difference is unknown stands in estimate.h. */
 static tandawire_stepped start_as_sender(int session)
 {
     struct report *r = &self.report;
@@ -150,8 +151,7 @@ static tandawire_stepped start_as_sender(int session)
     struct frame f;
     stop_if(line_take(&self.line, &f));
     stop_if(f.kind != LINE_ESTIMATOR ? "a frame out of turn" :
-            estimate_difference(self.store.table, store_table_length(&self.store), f.body, f.length, &r->estimate));
-    r->size = tandawire_size_for(r->estimate, times);
+            estimate_difference(self.store.table, store_table_length(&self.store), f.body, f.length, times, &r->estimate, &r->size));
     r->salt = (uint32_t)random_for(FOR_SALT, (uint64_t)(session * MOST_TRIES + r->tries)) & TANDAWIRE_MOST_SALT;
     return tandawire_session_start_sender(&self.session, self.store.table, store_table_length(&self.store), r->size, r->salt);
 }
@@ -351,8 +351,11 @@ static void print_sessions(void)
         sent += a->sent + b->sent;
         lists += (a->before + b->before) * TANDAWIRE_HASH_BYTES;
         contents += a->contents + b->contents;
-        printf("%5d  %d-%-3d %11zu %9llu %5u %5u %6d %6u %6u %8zu\n", schedule[s].round, a->peer, b->peer,
-               a->now - a->before + b->now - b->before, (unsigned long long)a->estimate, a->size, a->salt, a->tries,
+        char estimate[24] = "unknown";
+        if (a->estimate.known)
+            snprintf(estimate, sizeof estimate, "%llu", (unsigned long long)a->estimate.estimate);
+        printf("%5d  %d-%-3d %11zu %9s %5u %5u %6d %6u %6u %8zu\n", schedule[s].round, a->peer, b->peer,
+               a->now - a->before + b->now - b->before, estimate, a->size, a->salt, a->tries,
                a->swaps + b->swaps, a->steps + b->steps, a->sent + b->sent);
     }
     printf("\nSent: %zu bytes to find the differences, and %zu for the elements that were lacking.\n"

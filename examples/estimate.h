@@ -71,10 +71,13 @@ static inline int estimate_read(tandawire_estimator *e, const uint8_t *in, size_
     return 1;
 }
 
-/* Estimates the difference between our table and that of the far end, by the estimator it sent. Answers
- * null, or why there is no estimate. */
+/* Estimates the difference between our table and that of the far end, by the estimator it sent, and finds
+ * a size for a filter, so many times the difference. Where the difference is unknown, both tables together
+ * stand for it, twice: tables with little in common then read at the first try. Answers null, or why there
+ * is no estimate. */
 static inline const char *estimate_difference(const uint8_t *table, size_t table_length, const uint8_t *in,
-                                              size_t length, uint64_t *estimate)
+                                              size_t length, uint32_t times, tandawire_estimation *e,
+                                              uint32_t *size)
 {
     static tandawire_estimator ours, theirs; /* 50 KB each */
     if (!estimate_read(&theirs, in, length))
@@ -82,9 +85,12 @@ static inline const char *estimate_difference(const uint8_t *table, size_t table
     uint32_t refusal = tandawire_estimator_make(&ours, table, table_length);
     if (refusal)
         return tandawire_refusal_text(refusal);
-    tandawire_estimation e = tandawire_estimator_compare(&ours, &theirs);
-    *estimate = e.estimate;
-    return e.refusal ? tandawire_refusal_text(e.refusal) : NULL;
+    *e = tandawire_estimator_compare(&ours, &theirs);
+    if (e->refusal)
+        return tandawire_refusal_text(e->refusal);
+    *size = e->known ? tandawire_size_for(*e, times) :
+            tandawire_size_for(tandawire_known(table_length / TANDAWIRE_HASH_BYTES + tandawire_estimator_elements(&theirs)), 2);
+    return NULL;
 }
 
 #endif

@@ -298,7 +298,7 @@ static inline void serve(struct peer *p, struct peer *other, int keep)
 static inline void start(uint32_t run)
 {
     struct peer *sender = run >= SENDER ? &honest : &peer, *receiver = run >= SENDER ? &peer : &honest;
-    uint32_t size = run == LARGE_RECEIVER ? 4093 : run == SMALL_SENDER ? TANDAWIRE_LEAST_SIZE : tandawire_size_for(60, 4);
+    uint32_t size = run == LARGE_RECEIVER ? 4093 : run == SMALL_SENDER ? TANDAWIRE_LEAST_SIZE : tandawire_size_for(tandawire_known(60), 4);
     memset(&honest.session, 0x5a, sizeof honest.session);
     memset(&peer.session, 0x5a, sizeof peer.session);
     honest.in.head = honest.in.tail = peer.in.head = peer.in.tail = 0;

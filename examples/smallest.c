@@ -90,7 +90,7 @@ int main(void)
 
     /* Bert waits; Anna sends her filter. Both know nothing of the difference, so she takes the least size. */
     tandawire_stepped b = tandawire_session_start_receiver(&bert.session, bert.store.table, store_table_length(&bert.store));
-    tandawire_stepped a = tandawire_session_start_sender(&anna.session, anna.store.table, store_table_length(&anna.store), tandawire_size_for(0, 3), 0);
+    tandawire_stepped a = tandawire_session_start_sender(&anna.session, anna.store.table, store_table_length(&anna.store), TANDAWIRE_LEAST_SIZE, 0);
     if (a.refusal || b.refusal) {
         fprintf(stderr, "not started: %s, %s\n", tandawire_refusal_text(a.refusal), tandawire_refusal_text(b.refusal));
         return 1;

@@ -51,8 +51,8 @@ extern "C" {
 
 /* The version of this header, as text and as major * 10,000 + minor * 100 + patch; and that of the
  * archive that is linked. A program can hold one to the other. */
-#define TANDAWIRE_VERSION "0.3.0"
-#define TANDAWIRE_VERSION_NUMBER 300
+#define TANDAWIRE_VERSION "0.4.0"
+#define TANDAWIRE_VERSION_NUMBER 400
 uint32_t tandawire_version(void);
 
 #define TANDAWIRE_HASH_BYTES 64
@@ -194,9 +194,11 @@ uint32_t tandawire_estimator_build(const uint8_t *table, size_t table_length,
                                    uint32_t *hashes, size_t hashes_length,
                                    int64_t *counts, size_t counts_length);
 
-/* What an estimate answers: the refusal; and the estimate, 0 where it is refused. */
+/* What an estimate answers: the refusal; 1 where the difference is known, 0 where it is unknown; and the
+ * estimate of it, which means something only where it is known, and is 0 otherwise. */
 typedef struct tandawire_estimation {
     uint32_t refusal;
+    uint32_t known;
     uint64_t estimate;
 } tandawire_estimation;
 
@@ -206,12 +208,13 @@ typedef struct tandawire_estimation {
  * The second is subtracted from the first, in the first's columns, and the difference read stratum by
  * stratum, from stratum 31 downwards. If every stratum is complete, the estimate is the number of IDs
  * listed, and the first's columns are left zero. At the first stratum i that is not, it is the number
- * listed above it times 2^(i+1): then that stratum is left as its reading leaves it, zero if it was
- * false, and those below hold the difference. The second's columns are not changed. Only the first
- * TANDAWIRE_ESTIMATOR_PLACES places of each slice are judged and written.
+ * listed above it times 2^(i+1); if nothing was listed above it, the difference is unknown. Then that
+ * stratum is left as its reading leaves it, zero if it was false, and those below hold the difference. The
+ * second's columns are not changed. Only the first TANDAWIRE_ESTIMATOR_PLACES places of each slice are
+ * judged and written.
  *
- * An estimate of 0 means that the estimators are equal, as those of equal tables are, or that the first
- * stratum with something in it could not be read: two tables with little in common may give 0. */
+ * Known and 0: the two estimators are equal, as those of equal tables are, and in no other case. Unknown:
+ * they differ, and nothing says by how much; never take it for 0. */
 tandawire_estimation tandawire_estimate(uint64_t *ids, size_t ids_length,
                                         uint32_t *hashes, size_t hashes_length,
                                         int64_t *counts, size_t counts_length,

@@ -172,7 +172,8 @@ static inline tandawire_stepped tandawire_session_start_receiver(tandawire_sessi
 }
 
 /* Starts a session that sends its filter first, at a size and a salt: the first sent bytes of s->out.
- * tandawire_size_for finds a size. Answers refusal 0, or 1, or 3 for the size or the salt. */
+ * tandawire_size_for finds a size; knowing nothing, take TANDAWIRE_LEAST_SIZE, and the session doubles it
+ * until a filter reads. Answers refusal 0, or 1, or 3 for the size or the salt. */
 static inline tandawire_stepped tandawire_session_start_sender(tandawire_session *s,
                                                                const uint8_t *table, size_t table_length,
                                                                uint32_t size, uint32_t salt)
@@ -366,8 +367,19 @@ static inline uint32_t tandawire_estimator_make(tandawire_estimator *e, const ui
                                      TANDAWIRE_ESTIMATOR_PLACES, e->counts, TANDAWIRE_ESTIMATOR_PLACES);
 }
 
+/* How many elements the table had that an estimator was made from: its COUNTs count each three times. Of an
+ * estimator that came from a far end this is what that end says. */
+static inline uint64_t tandawire_estimator_elements(const tandawire_estimator *e)
+{
+    uint64_t total = 0;
+    for (size_t i = 0; i < TANDAWIRE_ESTIMATOR_PLACES; i++)
+        total += (uint64_t)e->counts[i];
+    return total / 3;
+}
+
 /* Estimates how many elements are in only one of two tables. Ours is used up: make it anew for another
- * far end. Answers refusal 0; or 1 for a COUNT out of range, and everything is unchanged. */
+ * far end. Answers refusal 0, and whether the difference is known; or 1 for a COUNT out of range, and
+ * everything is unchanged. */
 static inline tandawire_estimation tandawire_estimator_compare(tandawire_estimator *ours,
                                                                const tandawire_estimator *theirs)
 {
@@ -376,16 +388,26 @@ static inline tandawire_estimation tandawire_estimator_compare(tandawire_estimat
                               theirs->hashes, n, theirs->counts, n);
 }
 
-/* The size of a filter for an estimated difference: so many times the estimate, made odd, from 37 to
+/* A difference that is known without estimating, for tandawire_size_for. */
+static inline tandawire_estimation tandawire_known(uint64_t difference)
+{
+    tandawire_estimation e = {TANDAWIRE_REFUSED_NONE, 1, difference};
+    return e;
+}
+
+/* The size of a filter for a difference that is known: so many times the estimate, made odd, from 37 to
  * 4,093 (a prime: powers of two read badly). Times: 2 where the difference lies on one side, 3 where it may
- * lie on both, 4 where another exchange is dear. Knowing nothing, take the size for 0, which is 37: a
- * session doubles it until it does. docs/USING.md has the rates. */
-static inline uint32_t tandawire_size_for(uint64_t estimate, uint32_t times)
+ * lie on both, 4 where another exchange is dear. Answers 0 where it is unknown, or the estimate was
+ * refused: that is no size, and every call refuses it with 3. docs/USING.md has the rates, and what to do
+ * where the difference is unknown. */
+static inline uint32_t tandawire_size_for(tandawire_estimation e, uint32_t times)
 {
     const uint32_t most = 4093;
-    if (times && estimate > most / times)
+    if (e.refusal || !e.known)
+        return 0;
+    if (times && e.estimate > most / times)
         return most;
-    uint32_t size = ((uint32_t)estimate * times) | 1;
+    uint32_t size = ((uint32_t)e.estimate * times) | 1;
     return size < TANDAWIRE_LEAST_SIZE ? TANDAWIRE_LEAST_SIZE : size;
 }
 

@@ -117,13 +117,39 @@ static void expect_estimators(void)
     expect("estimator, two more", build_estimator(6 * TANDAWIRE_HASH_BYTES, places), TANDAWIRE_REFUSED_NONE);
     tandawire_estimation e = estimate(places, places);
     expect("estimate, refusal", e.refusal, TANDAWIRE_REFUSED_NONE);
+    expect("estimate, known", e.known, 1);
     expect("estimate", (size_t)e.estimate, 2);
     expect("estimate, short columns", estimate(places - 1, places).refusal, TANDAWIRE_REFUSED_ROOM);
     expect("estimate, short second", estimate(places, places - 1).refusal, TANDAWIRE_REFUSED_ROOM);
     second_counts[0] = -1;
     e = estimate(places, places);
     expect("estimate, a count below 0", e.refusal, TANDAWIRE_REFUSED_FORM);
+    expect("estimate, not known then", e.known, 0);
     expect("estimate, none then", (size_t)e.estimate, 0);
+}
+
+/* Estimators of zeros but for a bucket of the first that no peel takes: nothing is known, whichever stratum it lies in. With an element above it, that
+ * one is counted for the strata from there down. */
+static void expect_unknown(void)
+{
+    const size_t places = TANDAWIRE_ESTIMATOR_PLACES;
+    for (size_t stratum = 0; stratum < TANDAWIRE_STRATA; stratum++) {
+        size_t at = stratum * TANDAWIRE_STRATUM_PLACES;
+        expect("unknown, no elements", tandawire_estimator_build(NULL, 0, second_ids, places, second_hashes, places, second_counts, places), 0);
+        expect("unknown, none either", build_estimator(0, places), 0);
+        counts[at] = 2;
+        tandawire_estimation e = estimate(places, places);
+        expect("unknown, refusal", e.refusal, TANDAWIRE_REFUSED_NONE);
+        expect("unknown", e.known, 0);
+        expect("unknown, no number", (size_t)e.estimate, 0);
+        expect("unknown, what is left", (size_t)counts[at], 2);
+        /* The hash of zeros, an element of stratum 31. */
+        expect("known, one element", build_estimator(TANDAWIRE_HASH_BYTES, places), 0);
+        counts[at] = 2;
+        e = estimate(places, places);
+        expect("known, one above", e.known, stratum < TANDAWIRE_STRATA - 1);
+        expect("known, the number", (size_t)e.estimate, stratum < TANDAWIRE_STRATA - 1 ? (size_t)2 << stratum : 0);
+    }
 }
 
 /* ---- Messages ---- */
@@ -307,6 +333,7 @@ int main(void)
     expect_builds();
     expect_readings();
     expect_estimators();
+    expect_unknown();
     expect_messages();
     expect_session();
     return 0;

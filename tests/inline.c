@@ -30,7 +30,7 @@ static void expect_texts(void)
     expect_text("kind 566", tandawire_kind_text(TANDAWIRE_ELEMENT), "ELEMENT");
     expect_text("kind 0", tandawire_kind_text(TANDAWIRE_MALFORMED), "malformed");
     expect_text("kind 564", tandawire_kind_text(564), "unknown kind");
-    expect_text("version", TANDAWIRE_VERSION, "0.3.0");
+    expect_text("version", TANDAWIRE_VERSION, "0.4.0");
     expect("version, of header and archive", tandawire_version(), TANDAWIRE_VERSION_NUMBER);
 }
 
@@ -151,17 +151,45 @@ static void expect_estimators(void)
     expect("estimator", tandawire_estimator_make(&ours, table, put_table(table, 1, 20)), 0);
     expect("estimator, theirs", tandawire_estimator_make(&theirs, far_table, put_table(far_table, 11, 20)), 0);
     expect("estimator, a broken table", tandawire_estimator_make(&theirs, far_table, 1), TANDAWIRE_REFUSED_FORM);
-    expect("estimate", (size_t)tandawire_estimator_compare(&ours, &theirs).estimate, 20);
+    expect("estimator, elements", (size_t)tandawire_estimator_elements(&theirs), 20);
+    tandawire_estimation e = tandawire_estimator_compare(&ours, &theirs);
+    expect("estimate, known", e.known, 1);
+    expect("estimate", (size_t)e.estimate, 20);
+    expect("size, of an estimate", tandawire_size_for(e, 3), 61);
     theirs.counts[0] = -1;
-    expect("estimate, a bad count", tandawire_estimator_compare(&ours, &theirs).refusal, TANDAWIRE_REFUSED_FORM);
-    expect("size, none", tandawire_size_for(0, 3), 37);
-    expect("size, 12 times 3", tandawire_size_for(12, 3), 37);
-    expect("size, 13 times 3", tandawire_size_for(13, 3), 39);
-    expect("size, 50 times 4", tandawire_size_for(50, 4), 201);
-    expect("size, 1,364 times 3", tandawire_size_for(1364, 3), 4093);
-    expect("size, 1,365 times 3", tandawire_size_for(1365, 3), 4093);
-    expect("size, of anything", tandawire_size_for(UINT64_MAX, 4), 4093);
-    expect("size, times 0", tandawire_size_for(UINT64_MAX, 0), 37);
+    e = tandawire_estimator_compare(&ours, &theirs);
+    expect("estimate, a bad count", e.refusal, TANDAWIRE_REFUSED_FORM);
+    expect("size, of a refused estimate", tandawire_size_for(e, 3), 0);
+    expect("size, none", tandawire_size_for(tandawire_known(0), 3), 37);
+    expect("size, 12 times 3", tandawire_size_for(tandawire_known(12), 3), 37);
+    expect("size, 13 times 3", tandawire_size_for(tandawire_known(13), 3), 39);
+    expect("size, 50 times 4", tandawire_size_for(tandawire_known(50), 4), 201);
+    expect("size, 1,364 times 3", tandawire_size_for(tandawire_known(1364), 3), 4093);
+    expect("size, 1,365 times 3", tandawire_size_for(tandawire_known(1365), 3), 4093);
+    expect("size, of anything", tandawire_size_for(tandawire_known(UINT64_MAX), 4), 4093);
+    expect("size, times 0", tandawire_size_for(tandawire_known(UINT64_MAX), 0), 37);
+}
+
+/* An unknown difference has no number, and whoever overlooks that is refused. */
+static void expect_unknown(void)
+{
+    static tandawire_estimator ours, theirs;
+    static tandawire_session s;
+    size_t length = put_table(table, 1, 20);
+    tandawire_estimator_make(&ours, table, length);
+    theirs = ours;
+    tandawire_estimation e = tandawire_estimator_compare(&ours, &theirs);
+    expect("equal, known", e.known, 1);
+    expect("equal", (size_t)e.estimate, 0);
+    expect("equal, size", tandawire_size_for(e, 3), 37);
+    tandawire_estimator_make(&ours, table, length);
+    theirs.counts[TANDAWIRE_ESTIMATOR_PLACES - 1] += 2;
+    e = tandawire_estimator_compare(&ours, &theirs);
+    expect("unknown, refusal", e.refusal, TANDAWIRE_REFUSED_NONE);
+    expect("unknown", e.known, 0);
+    expect("unknown, no number", (size_t)e.estimate, 0);
+    expect("unknown, no size", tandawire_size_for(e, 3), 0);
+    expect("unknown, no start", tandawire_session_start_sender(&s, table, length, tandawire_size_for(e, 3), 0).refusal, TANDAWIRE_REFUSED_RANGE);
 }
 
 int main(void)
@@ -174,5 +202,6 @@ int main(void)
     expect_unions();
     expect_filters();
     expect_estimators();
+    expect_unknown();
     return 0;
 }

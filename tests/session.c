@@ -18,6 +18,7 @@ static void expect_sizes(void)
     expect("reading, ours", offsetof(tandawire_reading, ours), 8);
     expect("reading, theirs", offsetof(tandawire_reading, theirs), 16);
     expect("sizeof estimation", sizeof(tandawire_estimation), 16);
+    expect("estimation, known", offsetof(tandawire_estimation, known), 4);
     expect("estimation, estimate", offsetof(tandawire_estimation, estimate), 8);
     expect("sizeof message", sizeof(tandawire_message), 48);
     expect("message, refusal", offsetof(tandawire_message, refusal), 0);

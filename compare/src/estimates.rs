@@ -1,28 +1,25 @@
 //! Comparisons of the estimator: one building and one estimate by the model and the library, with
-//! all that is lent, and how many there must be.
+//! all that is lent; counts.rs has how many there must be.
 
 mod building;
 mod chains;
+mod counts;
 mod honest;
 mod known;
 mod malicious;
 mod refused;
+pub mod stand_ins;
+mod unknown;
 
+pub use counts::Counts;
 pub use known::check_model;
 
-use crate::estimator::{self, Estimate, Estimator, Outcome, PLACES, STRATA};
-use crate::filters::{End, MOST_COUNT};
+use crate::estimator::{self, Answer, Estimate, Estimation, Estimator, Outcome, PLACES};
+use crate::filters::MOST_COUNT;
 use crate::library::estimator as library;
 use crate::model::Columns;
 use crate::random::Random;
 use crate::{lent, Tally, GUARD};
-
-/// Fewer estimates than this (calls that are not refused) mean that something was left out, as do
-/// fewer of an outcome: all strata complete, the first failing one stuck, or false; or fewer that
-/// fail first at a stratum, be it stuck or false.
-const LEAST: usize = 8_000;
-const LEAST_OF_AN_OUTCOME: usize = 2_000;
-const LEAST_AT_A_STRATUM: usize = 50;
 
 pub fn compare(tally: &mut Tally) {
     known::compare(tally);
@@ -31,35 +28,7 @@ pub fn compare(tally: &mut Tally) {
     honest::compare(tally);
     malicious::compare(tally);
     chains::compare(tally);
-}
-
-/// Tells the outcomes, and whether there are enough of each.
-pub fn are_enough(outcomes: &[Outcome]) -> bool {
-    let number = |wanted: &dyn Fn(Outcome) -> bool| {
-        let alike = outcomes.iter().filter(|&&outcome| wanted(outcome));
-        alike.count()
-    };
-    let stuck = |outcome| matches!(outcome, Outcome::Failing(_, End::Stuck));
-    let failing_at = |i| move |outcome| matches!(outcome, Outcome::Failing(at, _) if at == i);
-    let complete = number(&|outcome| outcome == Outcome::Complete);
-    let repeated = number(&|outcome| matches!(outcome, Outcome::Failing(_, End::Repeated)));
-    let too_many = number(&|outcome| matches!(outcome, Outcome::Failing(_, End::TooMany)));
-    let kinds = [complete, number(&stuck), repeated + too_many];
-    println!("estimates with all strata complete: {complete}");
-    println!("estimates that fail first at a stuck stratum: {}", kinds[1]);
-    println!("at one that repeats an element: {repeated}, that has too many: {too_many}");
-    let of_a_stratum = |i| {
-        let failing = number(&failing_at(i));
-        let stuck = number(&|outcome| failing_at(i)(outcome) && stuck(outcome));
-        [stuck, failing - stuck]
-    };
-    let least = (0..STRATA).flat_map(of_a_stratum).min().unwrap_or(0);
-    println!("at each stratum, either stuck or false: at least {least}");
-    println!("{} estimates", outcomes.len());
-    outcomes.len() >= LEAST
-        && kinds.iter().all(|&n| n >= LEAST_OF_AN_OUTCOME)
-        && too_many > 0
-        && least >= LEAST_AT_A_STRATUM
+    unknown::compare(tally);
 }
 
 /// The three columns, each with what stands before and behind it.
@@ -132,17 +101,26 @@ fn build(tally: &mut Tally, table: &[u8], columns: Whole) -> (u32, Whole) {
 }
 
 /// One comparison of an estimate, with all that is lent.
-fn estimate(tally: &mut Tally, first: &Whole, second: &Whole) -> (Estimate, Option<Outcome>) {
+fn estimate(tally: &mut Tally, first: &Whole, second: &Whole) -> Answer {
     let pair = [first.clone(), second.clone()];
     let (mut by_model, mut by_library) = (pair.clone(), pair.clone());
     let [ours, theirs] = &mut by_model;
-    let (model, outcome) = estimator::estimate(ours.lent(), theirs.lent());
+    let answer = estimator::estimate(ours.lent(), theirs.lent());
     let [ours, theirs] = &mut by_library;
-    let library = library::estimate(ours.lent(), theirs.lent());
-    tally.outcomes.extend(outcome);
+    let library = (tally.estimates.library)(ours.lent(), theirs.lent());
+    if let Ok((estimate, outcome)) = answer {
+        tally.estimates.made(estimate, outcome);
+    }
+    let subject = tally.subject_name();
     let call = || format!("estimate {pair:x?}");
-    tally.same(call, (model, by_model), (library, by_library));
-    (model, outcome)
+    let model = Estimation::of(answer);
+    tally.same_of_kind(
+        || String::from(subject),
+        call,
+        (model, by_model),
+        (library, by_library),
+    );
+    answer
 }
 
 /// Two estimators whose difference is this one, with anything in both besides; the counts of
@@ -189,8 +167,7 @@ fn estimate_of(
         _ => with_little(difference),
     };
     let [first, second] = pair.map(|estimator| Whole::of(random, &estimator));
-    let (answer, outcome) = estimate(tally, &first, &second);
-    (answer, outcome.expect("not refused"))
+    estimate(tally, &first, &second).expect("not refused")
 }
 
 /// An ID of this stratum; in the highest one also IDs with more zeros, and 0.

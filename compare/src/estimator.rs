@@ -1,5 +1,6 @@
-//! The paper's estimator (document 01) in plain Rust, written from the paper alone: each stratum
-//! is a filter of its own, and its reading is that of filters.rs without the table's test.
+//! The papers' estimator (document 01; document 02, Req 02) in plain Rust, written from the papers
+//! alone: each stratum is a filter of its own, and its reading is that of filters.rs without the
+//! table's test.
 
 use crate::filters::{self, End, Filter, MOST_COUNT};
 use crate::model::{self, Columns};
@@ -80,11 +81,11 @@ pub fn build(table: &[u8], columns: Columns) -> u32 {
     0
 }
 
-/// What an estimate answers.
+/// How many IDs are in only one of the two: so many, or nothing says how many.
 #[derive(Clone, Copy, Debug, PartialEq)]
-pub struct Estimate {
-    pub refusal: u32,
-    pub estimate: u64,
+pub enum Estimate {
+    Known(u64),
+    Unknown,
 }
 
 /// How the strata were read: all complete, or the first that is not and its end.
@@ -94,8 +95,43 @@ pub enum Outcome {
     Failing(usize, End),
 }
 
+/// What is answered: an estimate and how the strata were read, or the number of a refusal.
+pub type Answer = Result<(Estimate, Outcome), u32>;
+
+/// An answer in C's numbers.
+#[derive(Clone, Copy, Debug, PartialEq)]
+pub struct Estimation {
+    pub refusal: u32,
+    pub known: u32,
+    pub estimate: u64,
+}
+
+impl Estimation {
+    pub fn of(answer: Answer) -> Estimation {
+        let (refusal, known, estimate) = match answer {
+            Ok((Estimate::Known(estimate), _)) => (0, 1, estimate),
+            Ok((Estimate::Unknown, _)) => (0, 0, 0),
+            Err(refusal) => (refusal, 0, 0),
+        };
+        Estimation {
+            refusal,
+            known,
+            estimate,
+        }
+    }
+}
+
+/// Where stratum i is the first that is not complete, and so many were listed above it.
+fn by_those_above(total: u128, i: usize) -> Estimate {
+    if total == 0 {
+        return Estimate::Unknown;
+    }
+    let estimate = total * 2u128.pow(i as u32 + 1);
+    Estimate::Known(u64::try_from(estimate).expect("below 2^64"))
+}
+
 /// Reads the difference from stratum 31 downwards and leaves what the readings leave.
-pub fn read(difference: &mut Estimator) -> (u64, Outcome) {
+pub fn read(difference: &mut Estimator) -> (Estimate, Outcome) {
     let mut total: u128 = 0;
     for i in (0..STRATA).rev() {
         let stratum = &mut difference.strata[i];
@@ -104,42 +140,37 @@ pub fn read(difference: &mut Estimator) -> (u64, Outcome) {
             *stratum = Filter::empty(BUCKETS);
         }
         if end != End::Complete {
-            let estimate = total * 2u128.pow(i as u32 + 1);
-            let estimate = u64::try_from(estimate).expect("below 2^64");
-            return (estimate, Outcome::Failing(i, end));
+            return (by_those_above(total, i), Outcome::Failing(i, end));
         }
         total += listed.len() as u128;
     }
-    (total as u64, Outcome::Complete)
+    (Estimate::Known(total as u64), Outcome::Complete)
 }
 
-/// Estimates in the first's columns; no outcome where a refusal stops it.
-pub fn estimate(first: Columns, second: Columns) -> (Estimate, Option<Outcome>) {
-    let refused = |refusal| Estimate {
-        refusal,
-        estimate: 0,
-    };
+/// The refusal that these two columns call for.
+pub fn refusal(first: &Columns, second: &Columns) -> Option<u32> {
     let judged = |columns: &Columns| {
         let mut judged = columns.counts.iter().take(PLACES);
         judged.all(|count| (0..=MOST_COUNT).contains(count))
     };
-    if !judged(&first) || !judged(&second) {
-        return (refused(1), None);
-    }
     let is_shorter = |columns| filters::a_column_is_shorter(columns, PLACES as u32);
-    if is_shorter(&first) || is_shorter(&second) {
-        return (refused(2), None);
+    if !judged(first) || !judged(second) {
+        return Some(1);
+    }
+    (is_shorter(first) || is_shorter(second)).then_some(2)
+}
+
+/// Estimates in the first's columns.
+pub fn estimate(first: Columns, second: Columns) -> Answer {
+    if let Some(refusal) = refusal(&first, &second) {
+        return Err(refusal);
     }
     let (ours, theirs) = (
         Estimator::standing_in(&first),
         Estimator::standing_in(&second),
     );
     let mut difference = ours.less(&theirs);
-    let (estimate, outcome) = read(&mut difference);
+    let read = read(&mut difference);
     difference.whole().lay(first);
-    let answer = Estimate {
-        refusal: 0,
-        estimate,
-    };
-    (answer, Some(outcome))
+    Ok(read)
 }

@@ -28,7 +28,6 @@ mod sessions;
 mod sets;
 mod tables;
 
-use estimator::Outcome;
 use filters::End;
 use gathered::Gathered;
 use random::Random;
@@ -51,7 +50,7 @@ pub struct Tally {
     subjects: Vec<(&'static str, u64)>,
     seed: u64,
     ends: Vec<(End, u64)>,
-    outcomes: Vec<Outcome>,
+    estimates: estimates::Counts,
     messages: messages::Counts,
     sessions: sessions::Counts,
     gathered: Gathered,
@@ -65,6 +64,11 @@ impl Tally {
         self.subjects.push((name, 0));
         self.seed = seed;
         Random::new(seed)
+    }
+
+    /// The name of the subject that has begun.
+    pub fn subject_name(&self) -> &'static str {
+        self.subjects.last().expect("a subject has begun").0
     }
 
     /// Counts one reading.
@@ -82,6 +86,10 @@ impl Tally {
         if let Some((name, compared)) = self.subjects.last() {
             println!("{name}: {compared} compared");
         }
+    }
+
+    fn total(&self) -> u64 {
+        self.subjects.iter().map(|(_, compared)| compared).sum()
     }
 
     /// One comparison. The call is put in words only if the answers differ.
@@ -173,14 +181,16 @@ fn main() {
     match words[..] {
         ["mutate", calls, seed] => mutate(calls, seed),
         ["mutate", ..] => usage(),
-        ["stand-ins"] => stand_ins(),
+        ["stand-ins"] => stand_ins(None),
+        ["stand-ins", part] => stand_ins(Some(part)),
+        ["estimates"] => compare_estimates(),
         ["sessions", ..] => compare(true),
         _ => compare(false),
     }
 }
 
 fn usage() {
-    println!("usage: compare [sessions | stand-ins | mutate CALLS SEED]");
+    println!("usage: compare [estimates | sessions | stand-ins [PART] | mutate CALLS SEED]");
     exit(1);
 }
 
@@ -199,7 +209,7 @@ fn begin() -> Tally {
         subjects: Vec::new(),
         seed: 0,
         ends: Vec::new(),
-        outcomes: Vec::new(),
+        estimates: estimates::Counts::default(),
         messages: messages::Counts::default(),
         sessions: sessions::Counts::default(),
         gathered: Gathered::default(),
@@ -219,14 +229,39 @@ fn mutate(calls: &str, seed: &str) {
     println!("{calls} mutated calls of seed {seed}, no difference");
 }
 
+/// The stand-ins of a part: whether each fault of theirs is found, and none where there is none.
+type AreCaught = fn(fn() -> Tally) -> bool;
+
+const STAND_INS: [(&str, AreCaught); 3] = [
+    ("packing", bits::stand_ins::are_caught),
+    ("estimates", estimates::stand_ins::are_caught),
+    ("sessions", sessions::stand_ins::are_caught),
+];
+
 /// Puts stand-ins in the place of the library, each with one fault: the comparison must find it.
-fn stand_ins() {
-    let packing = bits::stand_ins::are_caught(begin);
-    let sessions = sessions::stand_ins::are_caught(begin);
-    if !packing || !sessions {
+/// Those of all parts, or of the one that is named.
+fn stand_ins(part: Option<&str>) {
+    let is_wanted = |name| part.is_none_or(|part| part == name);
+    if !STAND_INS.iter().any(|(name, _)| is_wanted(*name)) {
+        return usage();
+    }
+    let mut caught = true;
+    for (_, are_caught) in STAND_INS.iter().filter(|(name, _)| is_wanted(*name)) {
+        caught &= are_caught(begin);
+    }
+    if !caught {
         println!("a stand-in was not caught, or one without a fault was");
         exit(1);
     }
+}
+
+/// Compares the estimator alone, which costs little time.
+fn compare_estimates() {
+    let mut tally = begin();
+    estimates::compare(&mut tally);
+    tally.tell_last();
+    estimates_must_be_enough(&tally);
+    println!("{} comparisons, no difference", tally.total());
 }
 
 /// Compares everything; or the sessions alone, which costs less time.
@@ -248,7 +283,7 @@ fn compare(sessions_alone: bool) {
         println!("more steps of sessions are asked for, or more of an answer");
         exit(1);
     }
-    let total: u64 = tally.subjects.iter().map(|(_, compared)| compared).sum();
+    let total = tally.total();
     if total < LEAST && !sessions_alone {
         println!("only {total} comparisons, {LEAST} are asked for");
         exit(1);
@@ -284,12 +319,16 @@ fn lower_layers_must_be_enough(tally: &Tally) {
         println!("{LEAST_READINGS} readings are asked for, {LEAST_OF_AN_END} of each end");
         exit(1);
     }
-    if !estimates::are_enough(&tally.outcomes) {
-        println!("more estimates are asked for, or more of a kind");
-        exit(1);
-    }
+    estimates_must_be_enough(tally);
     if !messages::are_enough(&tally.messages) {
         println!("more messages are asked for, or more of a kind or of a refusal");
+        exit(1);
+    }
+}
+
+fn estimates_must_be_enough(tally: &Tally) {
+    if !tally.estimates.are_enough() {
+        println!("more estimates are asked for, or more of a kind");
         exit(1);
     }
 }

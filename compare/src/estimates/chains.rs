@@ -5,7 +5,7 @@ use super::estimate_of;
 use super::malicious::plant_a_few;
 use crate::chains::{chain, is_long};
 use crate::crafted::{on_the_other_side, on_the_same_side};
-use crate::estimator::{Estimator, Outcome, BUCKETS, STRATA};
+use crate::estimator::{Estimate, Estimator, Outcome, BUCKETS, STRATA};
 use crate::filters::{self, End, Filter};
 use crate::pool::{ascending, Pool};
 use crate::quick;
@@ -52,7 +52,7 @@ fn full(random: &mut Random, pool: &Pool) -> Filter {
 /// A filter that would be complete with so many elements more. Each of the 77 frees the next lower
 /// bucket for the one before it. For each one more, three of these share a high bucket with what
 /// they look like there: it does not show at first, and once the three are out it stands alone.
-fn overfull(random: &mut Random, pool: &Pool, more: u32) -> Filter {
+pub fn overfull(random: &mut Random, pool: &Pool, more: u32) -> Filter {
     let sign = random.pick(&[1, -1]);
     let mut filter = Filter::empty(BUCKETS);
     let mut taken = Vec::new();
@@ -107,17 +107,18 @@ fn overfull_strata(tally: &mut Tally, random: &mut Random, pool: &Pool) {
                 stratum.put(random.next(), 1);
             }
             let above = (STRATA - 1 - i) as u64;
-            let (answer, outcome) = estimate_of(tally, random, &difference);
-            match more {
-                3 => {
-                    assert!(outcome == Outcome::Failing(i, End::TooMany));
-                    assert!(answer.estimate == above << (i + 1));
-                }
-                _ => {
-                    assert!(outcome == Outcome::Complete);
-                    assert!(answer.estimate == 77 + u64::from(more) + above);
-                }
-            }
+            let wanted = match more {
+                3 if above == 0 => (Estimate::Unknown, Outcome::Failing(i, End::TooMany)),
+                3 => (
+                    Estimate::Known(above << (i + 1)),
+                    Outcome::Failing(i, End::TooMany),
+                ),
+                _ => (
+                    Estimate::Known(77 + u64::from(more) + above),
+                    Outcome::Complete,
+                ),
+            };
+            assert!(estimate_of(tally, random, &difference) == wanted);
         }
     }
 }
@@ -131,13 +132,13 @@ fn full_strata(tally: &mut Tally, random: &mut Random, pool: &Pool) {
             *stratum = full(random, pool);
         }
         let listed = 77 * (STRATA - lowest) as u64;
-        let (answer, outcome) = estimate_of(tally, random, &difference);
-        assert!(outcome == Outcome::Complete && answer.estimate == listed);
+        let answer = estimate_of(tally, random, &difference);
+        assert!(answer == (Estimate::Known(listed), Outcome::Complete));
         if let Some(below) = lowest.checked_sub(1) {
             difference.strata[below].ids[0] = 1;
-            let (answer, outcome) = estimate_of(tally, random, &difference);
-            assert!(outcome == Outcome::Failing(below, End::Stuck));
-            assert!(answer.estimate == listed << lowest);
+            let answer = estimate_of(tally, random, &difference);
+            let stuck = Outcome::Failing(below, End::Stuck);
+            assert!(answer == (Estimate::Known(listed << lowest), stuck));
         }
     }
 }

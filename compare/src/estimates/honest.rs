@@ -1,8 +1,9 @@
 //! Comparisons of estimates of honest pairs: both estimators are built by the library.
 
 use super::{build, estimate, id_in, ids_in, Whole};
-use crate::estimator::{Outcome, STRATA};
+use crate::estimator::{Estimate, Outcome, BUCKETS, STRATA};
 use crate::filters::{End, MOST_HASHES};
+use crate::pool::ascending;
 use crate::quick;
 use crate::random::Random;
 use crate::sets::{some_ids, table_of};
@@ -17,16 +18,16 @@ pub fn compare(tally: &mut Tally) {
 }
 
 /// The IDs in both tables, in the first alone, and in the second alone.
-#[derive(Default)]
-struct Sets {
-    common: Vec<u64>,
-    ours: Vec<u64>,
-    theirs: Vec<u64>,
+#[derive(Clone, Default)]
+pub struct Sets {
+    pub common: Vec<u64>,
+    pub ours: Vec<u64>,
+    pub theirs: Vec<u64>,
 }
 
 impl Sets {
     /// Deals different IDs out to the three by these shares; no table gets too many.
-    fn deal(&mut self, random: &mut Random, ids: Vec<u64>, shares: [u64; 3]) {
+    pub fn deal(&mut self, random: &mut Random, ids: Vec<u64>, shares: [u64; 3]) {
         for id in ids {
             let [common, ours, theirs] = shares;
             let set = match random.below(common + ours + theirs) {
@@ -42,7 +43,7 @@ impl Sets {
         self.theirs.truncate(most);
     }
 
-    fn compare(&self, tally: &mut Tally, random: &mut Random) -> Outcome {
+    pub fn compare(&self, tally: &mut Tally, random: &mut Random) -> (Estimate, Outcome) {
         let pair = [&self.ours, &self.theirs].map(|alone| {
             let table = table_of(random, &[&self.common[..], alone].concat());
             let columns = Whole::with_room(random);
@@ -50,13 +51,12 @@ impl Sets {
             assert!(refusal == 0);
             built
         });
-        let (answer, outcome) = estimate(tally, &pair[0], &pair[1]);
-        let outcome = outcome.expect("not refused");
+        let (answer, outcome) = estimate(tally, &pair[0], &pair[1]).expect("not refused");
         // The model's own: what is complete is the true difference.
         if outcome == Outcome::Complete {
-            assert!(answer.estimate == (self.ours.len() + self.theirs.len()) as u64);
+            assert!(answer == Estimate::Known((self.ours.len() + self.theirs.len()) as u64));
         }
-        outcome
+        (answer, outcome)
     }
 }
 
@@ -88,7 +88,7 @@ fn random_sets(tally: &mut Tally) {
         let ids = some_ids(random, n as usize);
         let shares = random.pick(&SHARES);
         sets.deal(random, ids, shares);
-        let outcome = sets.compare(tally, random);
+        let (_, outcome) = sets.compare(tally, random);
         complete += u64::from(outcome == Outcome::Complete);
     }
     assert!((300..1_100).contains(&complete), "{complete}");
@@ -119,7 +119,7 @@ fn crowded(tally: &mut Tally) {
             let shares = random.pick(&SHARES[1..5]);
             sets.deal(random, ids, shares);
         }
-        match sets.compare(tally, random) {
+        match sets.compare(tally, random).1 {
             Outcome::Failing(_, End::Stuck) => stuck += 1,
             Outcome::Failing(..) => repeated += 1,
             Outcome::Complete => {}
@@ -139,6 +139,18 @@ fn a_few_elsewhere(random: &mut Random, sets: &mut Sets, except: usize) {
     }
 }
 
+/// Two IDs of the stratum in the same three places.
+pub fn two_alike(random: &mut Random, stratum: usize) -> [u64; 2] {
+    let mut seen: HashMap<[u32; 3], u64> = HashMap::new();
+    loop {
+        let id = id_in(random, stratum);
+        match seen.insert(ascending(id, BUCKETS), id) {
+            Some(other) if other != id => return [other, id],
+            _ => {}
+        }
+    }
+}
+
 /// Two elements of one stratum in the same three places: nothing is pure there, and where each
 /// has one of them the counts are 0.
 fn same_places(tally: &mut Tally) {
@@ -146,16 +158,7 @@ fn same_places(tally: &mut Tally) {
     let random = &mut random;
     for i in 0..6 * STRATA {
         let stratum = i % STRATA;
-        let mut seen: HashMap<[u32; 3], u64> = HashMap::new();
-        let (a, b) = loop {
-            let id = id_in(random, stratum);
-            let mut places = quick::places(id, 79);
-            places.sort_unstable();
-            match seen.insert(places, id) {
-                Some(other) if other != id => break (other, id),
-                _ => {}
-            }
-        };
+        let [a, b] = two_alike(random, stratum);
         let mut sets = Sets::default();
         match random.below(4) {
             0 => sets.ours = vec![a, b],
@@ -163,44 +166,50 @@ fn same_places(tally: &mut Tally) {
             _ => (sets.ours, sets.theirs) = (vec![a], vec![b]),
         }
         a_few_elsewhere(random, &mut sets, stratum);
-        let outcome = sets.compare(tally, random);
+        let (_, outcome) = sets.compare(tally, random);
         assert!(outcome == Outcome::Failing(stratum, End::Stuck));
     }
 }
 
-/// Two of one side and one of the other share the lowest bucket, and it is a place of the element
-/// that they look like: that one is listed, and once the three are out it comes again.
+/// Three IDs of the stratum that share their lowest bucket, a place of the element that they look
+/// like.
+pub fn three_alike(random: &mut Random, stratum: usize) -> [u64; 3] {
+    let lowest = random.below(6) as u32;
+    let mut found = Vec::new();
+    loop {
+        let id = id_in(random, stratum);
+        if ascending(id, BUCKETS)[0] != lowest || found.contains(&id) {
+            continue;
+        }
+        found.push(id);
+        if found.len() < 3 {
+            continue;
+        }
+        let last = [0; 3].map(|_| random.pick(&found));
+        let different: HashSet<u64> = last.into_iter().collect();
+        let look = quick::places(last[0] ^ last[1] ^ last[2], BUCKETS);
+        if different.len() == 3 && look.contains(&lowest) {
+            return last;
+        }
+    }
+}
+
+/// Two of one side and one of the other are such: what they look like is listed, and once the three
+/// are out it comes again.
 fn two_and_one(tally: &mut Tally) {
     let mut random = tally.subject("estimates, two and one", 0xA3);
     let random = &mut random;
     let mut repeated = 0;
     for i in 0..10 * STRATA {
         let stratum = i % STRATA;
-        let lowest = random.below(6) as u32;
-        let mut found = Vec::new();
-        let three = loop {
-            let id = id_in(random, stratum);
-            if quick::places(id, 79).into_iter().min() != Some(lowest) || found.contains(&id) {
-                continue;
-            }
-            found.push(id);
-            if found.len() < 3 {
-                continue;
-            }
-            let last = [0; 3].map(|_| random.pick(&found));
-            let different: HashSet<u64> = last.into_iter().collect();
-            let look = quick::places(last[0] ^ last[1] ^ last[2], 79);
-            if different.len() == 3 && look.contains(&lowest) {
-                break last;
-            }
-        };
+        let three = three_alike(random, stratum);
         let mut sets = Sets::default();
         match random.below(2) {
             0 => (sets.ours, sets.theirs) = (three[..2].to_vec(), three[2..].to_vec()),
             _ => (sets.ours, sets.theirs) = (three[..1].to_vec(), three[1..].to_vec()),
         }
         a_few_elsewhere(random, &mut sets, stratum);
-        let outcome = sets.compare(tally, random);
+        let (_, outcome) = sets.compare(tally, random);
         repeated += u64::from(outcome == Outcome::Failing(stratum, End::Repeated));
     }
     assert!(repeated > 250, "{repeated}");

@@ -1,9 +1,10 @@
 //! Tests of the estimator by the numbers of the paper: of the model, then of the library.
 
 use super::{build, Whole};
-use crate::estimator::{self, Estimate, Estimator, Outcome, BUCKETS, PLACES, STRATA};
+use crate::estimator::{
+    self, Answer, Estimate, Estimation, Estimator, Outcome, BUCKETS, PLACES, STRATA,
+};
 use crate::filters::{End, Filter};
-use crate::library::estimator as library;
 use crate::random::Random;
 use crate::sets::table_of;
 use crate::{model, Tally};
@@ -25,10 +26,25 @@ const STRATUM_OF: [(u64, usize); 8] = [
 struct Case {
     name: &'static str,
     difference: Estimator,
-    estimate: u64,
+    estimate: Estimate,
     outcome: Outcome,
     zero_from: usize,
 }
+
+/// Answers and their numbers for C.
+const NUMBERS: [(Answer, [u64; 3]); 5] = [
+    (
+        Ok((Estimate::Known(48), Outcome::Failing(3, End::Stuck))),
+        [0, 1, 48],
+    ),
+    (Ok((Estimate::Known(0), Outcome::Complete)), [0, 1, 0]),
+    (
+        Ok((Estimate::Unknown, Outcome::Failing(3, End::Stuck))),
+        [0, 0, 0],
+    ),
+    (Err(1), [1, 0, 0]),
+    (Err(2), [2, 0, 0]),
+];
 
 const KEY: u64 = 0x0123_4567_89AB_CDEF;
 
@@ -71,71 +87,85 @@ fn cases() -> Vec<Case> {
     };
     let stuck = |i| Outcome::Failing(i, End::Stuck);
     let repeated = |i| Outcome::Failing(i, End::Repeated);
+    let (known, unknown) = (Estimate::Known, Estimate::Unknown);
     vec![
         case(
             "3 listed above, stratum 3 stuck",
             planted(&[(31, 1), (4, 2), (2, 7)], &[(3, garbage())]),
-            48,
+            known(48),
             stuck(3),
             4,
         ),
         case(
             "3 listed above, stratum 3 false",
             planted(&[(31, 1), (4, 2), (2, 7)], &[(3, lone())]),
-            48,
+            known(48),
             repeated(3),
             3,
         ),
         case(
             "a repeat in stratum 20",
             planted(&[(21, 1), (25, 4)], &[(20, lone()), (0, garbage())]),
-            5 << 21,
+            known(5 << 21),
             repeated(20),
             20,
         ),
         case(
             "a lone key and nothing else",
             planted(&[], &[(3, lone())]),
-            0,
+            unknown,
             repeated(3),
             0,
         ),
         case(
             "one key in two strata",
             planted(&[(31, 1), (30, 1)], &[]),
-            2,
+            known(2),
             Outcome::Complete,
             0,
         ),
         case(
             "stratum 31 stuck",
             planted(&[(30, 2), (0, 1)], &[(31, garbage())]),
-            0,
+            unknown,
             stuck(31),
             32,
         ),
         case(
+            "stratum 31 false",
+            planted(&[(30, 2), (0, 1)], &[(31, lone())]),
+            unknown,
+            repeated(31),
+            31,
+        ),
+        case(
             "nothing above a stuck stratum 0",
             planted(&[], &[(0, garbage())]),
-            0,
+            unknown,
             stuck(0),
             1,
         ),
         case(
             "one above a stuck stratum 0",
             planted(&[(1, 1)], &[(0, garbage())]),
-            2,
+            known(2),
             stuck(0),
             1,
         ),
         case(
             "three above a stuck stratum 30",
             planted(&[(31, 3)], &[(30, garbage())]),
-            3 << 31,
+            known(3 << 31),
             stuck(30),
             31,
         ),
-        case("nothing", Estimator::empty(), 0, Outcome::Complete, 0),
+        case(
+            "nothing",
+            Estimator::empty(),
+            known(0),
+            Outcome::Complete,
+            0,
+        ),
     ]
 }
 
@@ -163,6 +193,15 @@ pub fn check_model() -> Result<(), String> {
             &format!("the stratum of {id:#x}"),
             Estimator::of(&[id]) == wanted,
         )?;
+    }
+    for (answer, wanted) in NUMBERS {
+        let numbers = Estimation::of(answer);
+        let numbers = [
+            numbers.refusal.into(),
+            numbers.known.into(),
+            numbers.estimate,
+        ];
+        check(&format!("the numbers of {answer:?}"), numbers == wanted)?;
     }
     for case in cases() {
         let mut difference = case.difference.clone();
@@ -205,11 +244,8 @@ fn one_case(tally: &mut Tally, random: &mut Random, case: &Case) {
         let first = case.difference.less(&Estimator::empty().less(&besides));
         let mut first = Whole::of(random, &first);
         let mut second = Whole::of(random, &besides);
-        let answer = library::estimate(first.lent(), second.lent());
-        let wanted = Estimate {
-            refusal: 0,
-            estimate: case.estimate,
-        };
+        let answer = (tally.estimates.library)(first.lent(), second.lent());
+        let wanted = Estimation::of(Ok((case.estimate, case.outcome)));
         tally.same(|| String::from(case.name), wanted, answer);
         let found = Estimator::standing_in(&first.lent());
         let call = || format!("what is left: {}", case.name);

@@ -27,7 +27,7 @@ fn some_pair(random: &mut Random, lens: [usize; 6]) -> [Whole; 2] {
 }
 
 fn refusal(tally: &mut Tally, [first, second]: &[Whole; 2]) -> u32 {
-    estimate(tally, first, second).0.refusal
+    estimate(tally, first, second).err().unwrap_or(0)
 }
 
 /// Each of the six at every length, several at once, and nothing lent at all.

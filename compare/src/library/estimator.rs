@@ -1,8 +1,9 @@
 //! The exported functions of the estimator, likewise.
 
 use super::filters::start_mut;
-use crate::estimator::Estimate;
+use crate::estimator::Estimation;
 use crate::model::Columns;
+use std::mem::offset_of;
 
 extern "C" {
     fn tandawire_estimator_build(
@@ -28,14 +29,22 @@ extern "C" {
         hashes2_len: usize,
         counts2: *const i64,
         counts2_len: usize,
-    ) -> TandawireEstimate;
+    ) -> TandawireEstimation;
 }
 
 #[repr(C)]
-struct TandawireEstimate {
+struct TandawireEstimation {
     refusal: u32,
+    known: u32,
     estimate: u64,
 }
+
+// C's struct has 16 bytes and no gap.
+const _: () = assert!(
+    size_of::<TandawireEstimation>() == 16
+        && offset_of!(TandawireEstimation, known) == 4
+        && offset_of!(TandawireEstimation, estimate) == 8
+);
 
 // Safety, for both below: as in library.rs.
 // What is only read is taken as if it might be written to: should it be, it must show.
@@ -55,7 +64,7 @@ pub fn build(table: &mut [u8], columns: Columns) -> u32 {
     }
 }
 
-pub fn estimate(first: Columns, second: Columns) -> Estimate {
+pub fn estimate(first: Columns, second: Columns) -> Estimation {
     let answer = unsafe {
         tandawire_estimate(
             start_mut(first.ids),
@@ -72,8 +81,9 @@ pub fn estimate(first: Columns, second: Columns) -> Estimate {
             second.counts.len(),
         )
     };
-    Estimate {
+    Estimation {
         refusal: answer.refusal,
+        known: answer.known,
         estimate: answer.estimate,
     }
 }

@@ -82,7 +82,7 @@ or-bit : (a b q : ℕ) → bitOr a b / 2 ^ q % 2 ≡ bitOr (a / 2 ^ q % 2) (b / 
 or-bit a b q = ap (λ (n : ℕ). n % 2) (or-shr a b q) ∙ or-mod (a / 2 ^ q) (b / 2 ^ q) 1
 
 -- a bit is at its place alone
-elsewhere : (b p q : ℕ) → b < 2 → q ≢ p → b * 2 ^ p / 2 ^ q % 2 ≡ 0
+pub elsewhere : (b p q : ℕ) → b < 2 → q ≢ p → b * 2 ^ p / 2 ^ q % 2 ≡ 0
 elsewhere b p q h ne = go (ltb q p) refl
   where
     go : (t : Bool) → ltb q p ≡ t → b * 2 ^ p / 2 ^ q % 2 ≡ 0

@@ -13,9 +13,9 @@ unfolding stratumOf
 stratum-le x = omega arith
 
 -- the bits below are zero, and where they are not all that were asked for, the next is one
-record Trails (n k t : ℕ) : Type 0 where
-  zeros : n % 2 ^ t ≡ 0
-  next : t < k → n / 2 ^ t % 2 ≡ 1
+pub record Trails (n k t : ℕ) : Type 0 where
+  pub zeros : n % 2 ^ t ≡ 0
+  pub next : t < k → n / 2 ^ t % 2 ≡ 1
 
 -- one digit more
 trails-digit : (n k t d : ℕ) → n % 2 ≡ d → Trails (n / 2) k t → Trails n (suc k) (under d t)
@@ -25,7 +25,7 @@ trails-digit n k t zero e h = record {
 }
 trails-digit n k t (suc d) e h = record { zeros = mod-one n; next = λ l. omega arith }
 
-trails : (k n : ℕ) → Trails n k (trailingZeros k n)
+pub trails : (k n : ℕ) → Trails n k (trailingZeros k n)
 unfolding trailingZeros
 trails zero n = record { zeros = mod-one n; next = λ h. absurd (omega arith) }
 trails (suc k) n = trails-digit n k (trailingZeros k (n / 2)) (n % 2) refl (trails k (n / 2))

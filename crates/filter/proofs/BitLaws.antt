@@ -1,16 +1,17 @@
 -- The bits of a word: one of them put on or off, and the lowest that is set, which a count of trailing zeros finds. Assumes nothing.
-use mathlib.Core.Path.{_≡_, refl, sym, ap, subst, _∙_}
-use mathlib.Core.Logic.{_≢_, ⊎-elim}
+use mathlib.Core.Path.{_≡_, refl, sym, ap, _∙_}
+use mathlib.Core.Logic.{_≢_}
 use mathlib.Core.Bool.{Bool, true, false, not, cond}
-use Prim.Native.Nat.{ℕ, zero, suc, _-_, _+_, _*_, _/_, _%_, _^_, _≤_, _<_}
-use native.Mathlib.Nat.{not-suc-le-zero, le-of-suc-le-suc, zero-lt-suc, eq-or-lt-of-le, mod-lt, zero-div, div-one, div-eq-of-lt, div-lt-iff-lt-mul, add-comm, pow-suc, mul-mod-left}
-use native.Mathlib.Numerals.{add-one}
+use Prim.Native.Nat.{ℕ, zero, suc, _-_, _+_, _*_, _/_, _%_, _^_, _<_}
+use native.Mathlib.Nat.{not-suc-le-zero, le-of-suc-le-suc, zero-lt-suc, mod-lt, mod-eq-of-lt, zero-div, zero-mod, one-mul}
 use native.Mathlib.Omega.{arith}
-use lib.Dec.{eqb, ltb}
-use lib.Pow.{pow-add, pow-lt, shl-shr, shr-shr, shl-exact}
+use lib.Dec.{eqb}
+use lib.Pow.{pow-pos, mod-pow-add, mod-mod-pow, shl-shr, shl-exact}
 use lib.Bits.{bitXor, xor-shr, xor-mod}
-use lib.Count.{trailingZeros, trailing-le, under}
-use borrow.Author.Tests.{eq-eqb, ne-eqb, eqb-true, eqb-false, ltb-true, ltb-false}
+use lib.Count.{trailingZeros, trailing-le}
+use borrow.Author.Tests.{eq-eqb, ne-eqb, eqb-true, eqb-false}
+use Rattle.bucket.proofs.BitLaws.{elsewhere}
+use Rattle.bucket.proofs.CountLaws.{trails}
 use Rattle.filter.specs.Marks.{lit}
 
 -- ---- one bit
@@ -30,28 +31,10 @@ lit-no w j e = ne-eqb (w / 2 ^ j % 2) 1 e
 -- ---- the bits of a power of two
 
 power-here : (j : ℕ) → 2 ^ j / 2 ^ j % 2 ≡ 1
-power-here j = ap (λ (n : ℕ). n % 2) (ap (λ (n : ℕ). n / 2 ^ j) one ∙ shl-shr 1 j)
-  where
-    one : 2 ^ j ≡ 1 * 2 ^ j
-    one = omega arith
-
-power-even : (k : ℕ) → 0 < k → 2 ^ k % 2 ≡ 0
-power-even zero h = absurd (not-suc-le-zero h)
-power-even (suc k) h = ap (λ (n : ℕ). n % 2) (pow-suc 2 k) ∙ mul-mod-left (2 ^ k) 2
+power-here j = ap (λ (n : ℕ). n / 2 ^ j % 2) (sym (one-mul (2 ^ j))) ∙ ap (λ (n : ℕ). n % 2) (shl-shr 1 j)
 
 power-elsewhere : (i j : ℕ) → i ≢ j → 2 ^ j / 2 ^ i % 2 ≡ 0
-power-elsewhere i j ne = go (ltb i j) refl
-  where
-    go : (t : Bool) → ltb i j ≡ t → 2 ^ j / 2 ^ i % 2 ≡ 0
-    go true e =
-        let l : i < j = ltb-true i j e in
-        let s : j ≡ (j - i) + i = omega arith in
-        let q : 2 ^ j / 2 ^ i ≡ 2 ^ (j - i) = ap (λ (n : ℕ). 2 ^ n / 2 ^ i) s ∙ ap (λ (n : ℕ). n / 2 ^ i) (pow-add 2 (j - i) i) ∙ shl-shr (2 ^ (j - i)) i in
-        ap (λ (n : ℕ). n % 2) q ∙ power-even (j - i) (omega arith)
-    go false e = ap (λ (n : ℕ). n % 2) (div-eq-of-lt (pow-lt (above (ltb-false i j e))))
-      where
-        above : j ≤ i → j < i
-        above h = ⊎-elim (λ q. absurd (ne (sym q))) (λ q. q) (eq-or-lt-of-le h)
+power-elsewhere i j ne = ap (λ (n : ℕ). n / 2 ^ i % 2) (sym (one-mul (2 ^ j))) ∙ elsewhere 1 j i (omega arith) ne
 
 -- ---- one bit put on or off
 
@@ -107,46 +90,11 @@ lit-turned w j on l e i = ap (λ (n : ℕ). lit (bitXor w n) i) one ∙ lit-flip
 
 -- ---- the lowest bit
 
-shift-suc : (n i : ℕ) → n / 2 ^ suc i ≡ n / 2 / 2 ^ i
-shift-suc n i = ap (λ (m : ℕ). n / 2 ^ m) (sym (add-one i) ∙ add-comm i 1) ∙ sym (shr-shr n 1 i)
-
-trailing-cases : (k n : ℕ) (P : ℕ → Type 0) → (n % 2 ≡ 0 → P (suc (trailingZeros k (n / 2)))) → (n % 2 ≡ 1 → P 0) → P (trailingZeros (suc k) n)
-unfolding trailingZeros
-trailing-cases k n P a b = go (n % 2) refl (mod-lt n (zero-lt-suc 1))
-  where
-    go : (d : ℕ) → n % 2 ≡ d → d < 2 → P (under d (trailingZeros k (n / 2)))
-    go zero e h = a e
-    go (suc zero) e h = b e
-    go (suc (suc d)) e h = absurd (not-suc-le-zero (le-of-suc-le-suc (le-of-suc-le-suc h)))
-
-trailing-below : (k n i : ℕ) → i < trailingZeros k n → n / 2 ^ i % 2 ≡ 0
-trailing-below zero n i h = absurd (none h)
-  where
-    none : i < trailingZeros zero n → ⊥
-    none l = omega (arith, trailing-le zero n)
-trailing-below (suc k) n i h =
-    go i
-    (trailing-cases k n (λ (t : ℕ). (i < t) → (n % 2 ≡ 0) × (i < suc (trailingZeros k (n / 2)))) (λ e l. (e, l)) (λ e l. absurd (not-suc-le-zero l)) h)
-    (trailing-below k (n / 2))
-  where
-    go : (j : ℕ) → (n % 2 ≡ 0) × (j < suc (trailingZeros k (n / 2))) → ((m : ℕ) → m < trailingZeros k (n / 2) → n / 2 / 2 ^ m % 2 ≡ 0)
-        → n / 2 ^ j % 2 ≡ 0
-    go zero p ih = ap (λ (m : ℕ). m % 2) (div-one n) ∙ p .0
-    go (suc j) p ih = ap (λ (m : ℕ). m % 2) (shift-suc n j) ∙ ih j (le-of-suc-le-suc (p .1))
-
-trailing-here : (k n : ℕ) → trailingZeros k n < k → n / 2 ^ trailingZeros k n % 2 ≡ 1
-trailing-here zero n h = absurd (not-suc-le-zero h)
-trailing-here (suc k) n h =
-    trailing-cases k n (λ (t : ℕ). t < suc k → n / 2 ^ t % 2 ≡ 1)
-    (λ e l. ap (λ (m : ℕ). m % 2) (shift-suc n (trailingZeros k (n / 2))) ∙ trailing-here k (n / 2) (le-of-suc-le-suc l))
-    (λ e l. ap (λ (m : ℕ). m % 2) (div-one n) ∙ e) h
-
-trailing-lt : (k n : ℕ) → n < 2 ^ k → 0 < n → trailingZeros k n < k
-trailing-lt zero n h z = absurd (omega arith)
-trailing-lt (suc k) n h z =
-    trailing-cases k n (λ (t : ℕ). t < suc k)
-    (λ e. let ih = trailing-lt k (n / 2) (div-lt-iff-lt-mul (zero-lt-suc 1) .1 (subst (λ (m : ℕ). n < m) (pow-suc 2 k) h)) (omega arith) in omega arith)
-    (λ e. omega arith)
+-- the bits below the lowest one that is set
+zeros-below : (n t i : ℕ) → n % 2 ^ t ≡ 0 → i < t → n / 2 ^ i % 2 ≡ 0
+zeros-below n t i z l = bit-cases (λ (b : ℕ). b * 2 ^ i + n % 2 ^ i ≡ 0 → b ≡ 0) (n / 2 ^ i % 2) (mod-lt (n / 2 ^ i) (zero-lt-suc 1)) (λ e. refl)
+    (λ e. absurd (omega (arith, e, pow-pos i))) (sym (mod-pow-add n 1 i) ∙ sym (mod-mod-pow n (t - (1 + i)) (1 + i))
+    ∙ ap (λ (a : ℕ). a % 2 ^ (1 + i)) (ap (λ (j : ℕ). n % 2 ^ j) (omega (arith, l)) ∙ z) ∙ zero-mod (2 ^ (1 + i)))
 
 -- t is the lowest bit of w that is set
 pub record Lowest (w t : ℕ) : Type 0 where
@@ -155,11 +103,14 @@ pub record Lowest (w t : ℕ) : Type 0 where
   pub below : (i : ℕ) → i < t → lit w i ≡ false
 
 pub lowest-bit : (w : ℕ) → w < 2 ^ 64 → w ≢ 0 → Lowest w (trailingZeros 64 w)
-unfolding lit
-lowest-bit w h ne =
-    let s : trailingZeros 64 w < 64 = trailing-lt 64 w h (omega (arith, ne)) in
-    record {
-      small = s;
-      here = eq-eqb (w / 2 ^ trailingZeros 64 w % 2) 1 (trailing-here 64 w s);
-      below = λ i l. ap (λ (n : ℕ). eqb n 1) (trailing-below 64 w i l);
-    }
+lowest-bit w h ne = record {
+  small = some;
+  here = lit-yes w (trailingZeros 64 w) (trails 64 w .next some);
+  below = λ i l. lit-no w i (λ e. omega (arith, e, zeros-below w (trailingZeros 64 w) i (trails 64 w .zeros) l));
+}
+  where
+    all : trailingZeros 64 w ≡ 64 → w ≡ 0
+    all e = sym (mod-eq-of-lt h) ∙ ap (λ (t : ℕ). w % 2 ^ t) (sym e) ∙ trails 64 w .zeros
+
+    some : trailingZeros 64 w < 64
+    some = let no : trailingZeros 64 w ≢ 64 = λ e. ne (all e) in omega (arith, trailing-le 64 w, no)

@@ -1,25 +1,25 @@
 -- The estimate of what differs, where it is exact, of the estimating call as its contract states it.
 --
 -- estimates-exactly: if both estimators were made by the rules from tables, and all strata are complete, and in no part of what differs in a
--- stratum does a bucket shared by several IDs pass for a bucket holding one ID or none (demand 3's supposition), then the estimate is the
--- number of IDs in only one of the tables.
+-- stratum does a bucket shared by several IDs pass for a bucket holding one ID or none (demand 3's supposition), then the estimate is
+-- known, and the number of IDs in only one of the tables.
 -- estimates-whole: the same, where no stratum has a stopping set (document 01: a knot) in place of "all strata are complete".
--- estimates-equal: the estimate of equal tables is 0, with no supposition.
+-- estimates-equal: the estimate of equal tables is known and 0, with no supposition (by zero-equal of EstimateKnown).
 --
 -- estimates-built: estimates-whole of the two calls: estimators that estimatorCall built are never refused, and the answer is that number.
 --
 -- estimate-exact: all four, at document 01's derivation of IDs, which the exported call has. They are stated over any derivation of 64 bits
 -- and any salt. Assumes nothing.
 use mathlib.Core.Path.{_≡_, sym, ap, _∙_}
-use mathlib.Core.Bool.{Bool, true, cond}
+use mathlib.Core.Bool.{Bool, true}
 use mathlib.Core.List.{List}
 use Prim.Native.Nat.{ℕ, _^_, _<_}
-use lib.Dec.{eqb}
 use lib.ListN.{length}
 use Rattle.bucket.specs.Columns.{Columns, view}
 use Rattle.filter.specs.declared.answers.Refusal.the-variants.{None}
 use Rattle.filter.specs.declared.answers.Verdict.the-variants.{Complete}
-use Rattle.filter.specs.Answers.{refusalNumber, estimate}
+use Rattle.filter.specs.declared.answers.Estimate.the-variants.{Known}
+use Rattle.filter.specs.Answers.{madeAnswer}
 use Rattle.filter.specs.Table.{firstEight, idsOf, isTable}
 use Rattle.filter.specs.Filter.{Item, filterOf}
 use Rattle.filter.specs.Stopping.{differing, Clear, StoppingSet}
@@ -31,21 +31,16 @@ use Rattle.filter.specs.Estimator.{
   less,
   strataVerdict,
   readingAt,
-  readings,
-  estimateOf,
-  remaining,
   estimatorRefusal,
   estimatorCall,
   estimateRefusal,
-  Estimated,
-  estimated,
   estimateCall,
 }
 use Rattle.filter.proofs.FilledLaws.{wide-of, view-filled-in}
 use Rattle.filter.proofs.IdLaws.{ids-distinct, ids-few, first-eight-below, ids-below}
 use Rattle.filter.proofs.MadeLaws.{made-counts, made-room}
-use Rattle.filter.proofs.SideLaws.{differing-self}
-use Rattle.filter.proofs.StratumLaws.{total-cong, estimate-listed, strata-differing, stratum-listed, stratum-whole, empty-clear, empty-open}
+use Rattle.filter.proofs.EstimateKnown.{granted-answer, zero-equal}
+use Rattle.filter.proofs.StratumLaws.{total-cong, estimate-listed, strata-differing, stratum-listed, stratum-whole}
 
 -- the columns hold the estimator of a table
 abbrev pub MadeFrom : (ℕ → ℕ) → ℕ → List ℕ → Columns → Type 0
@@ -63,31 +58,17 @@ EstimatesExactly derive =
     → (a b : Columns) → estimateRefusal a b ≡ None → MadeFrom derive salt t a → MadeFrom derive salt s b
     → ((i : ℕ) → i < 32 → Clear (stratumRule salt) (differingAt derive salt t s i))
     → ((i : ℕ) → i < 32 → strataVerdict (readingAt salt i (less (view a) (view b))) ≡ Complete)
-    → estimateCall salt a b .answer .estimate ≡ length (differing (idsOf derive t) (idsOf derive s))
-
-module _ (salt : ℕ) (a b : Columns) (granted : estimateRefusal a b ≡ None) where
-  granted-call : estimateCall salt a b
-      ≡ estimated (estimate 0 (estimateOf 0 (readings salt 32 (less (view a) (view b))))) (filled 2528 (remaining salt 32 (less (view a) (view b))) a)
-  unfolding estimateCall
-  granted-call =
-      ap (λ (n : ℕ). cond (eqb n 0)
-      (estimated (estimate 0 (estimateOf 0 (readings salt 32 (less (view a) (view b))))) (filled 2528 (remaining salt 32 (less (view a) (view b))) a))
-      (estimated (estimate n 0) a)) (ap refusalNumber granted)
-
-  granted-estimate : estimateCall salt a b .answer .estimate ≡ estimateOf 0 (readings salt 32 (less (view a) (view b)))
-  granted-estimate = ap (λ (e : Estimated). e .answer .estimate) granted-call
-
-  granted-answer : estimateCall salt a b .answer ≡ estimate 0 (estimateCall salt a b .answer .estimate)
-  granted-answer = ap (λ (e : Estimated). e .answer) granted-call ∙ ap (estimate 0) (sym granted-estimate)
+    → estimateCall salt a b .answer ≡ madeAnswer (Known (length (differing (idsOf derive t) (idsOf derive s))))
 
 pub estimates-exactly : (derive : ℕ → ℕ) → ((h : ℕ) → h < 2 ^ 512 → derive h < 2 ^ 64) → EstimatesExactly derive
 estimates-exactly derive bound salt t s table-t table-s a b granted made-a made-b clear complete =
-    granted-estimate salt a b granted
-    ∙ estimate-listed salt (less (view a) (view b)) 32 complete
-    ∙ total-cong (λ i. length (readingAt salt i (less (view a) (view b)) .listed)) (λ i. length (differingAt derive salt t s i)) 32
+    granted-answer salt a b granted
+    ∙ ap madeAnswer (estimate-listed salt (less (view a) (view b)) 32 complete)
+    ∙ ap (λ (n : ℕ). madeAnswer (Known n))
+    (total-cong (λ i. length (readingAt salt i (less (view a) (view b)) .listed)) (λ i. length (differingAt derive salt t s i)) 32
     (λ i h. stratum-listed salt i (idsOf derive t) (idsOf derive s) (ids-distinct derive t table-t) (ids-distinct derive s table-s)
     (ids-below derive bound t) (ids-below derive bound s) (view a) (view b) h made-a made-b (clear i h) (complete i h))
-    ∙ strata-differing salt (idsOf derive t) (idsOf derive s)
+    ∙ strata-differing salt (idsOf derive t) (idsOf derive s))
 
 -- ---- no stratum has a stopping set
 
@@ -97,7 +78,7 @@ EstimatesWhole derive =
     → (a b : Columns) → estimateRefusal a b ≡ None → MadeFrom derive salt t a → MadeFrom derive salt s b
     → ((i : ℕ) → i < 32 → Clear (stratumRule salt) (differingAt derive salt t s i))
     → ((i : ℕ) → i < 32 → (q : Item → Bool) → StoppingSet (stratumRule salt) (differingAt derive salt t s i) q → ⊥)
-    → estimateCall salt a b .answer .estimate ≡ length (differing (idsOf derive t) (idsOf derive s))
+    → estimateCall salt a b .answer ≡ madeAnswer (Known (length (differing (idsOf derive t) (idsOf derive s))))
 
 pub estimates-whole : (derive : ℕ → ℕ) → ((h : ℕ) → h < 2 ^ 512 → derive h < 2 ^ 64) → EstimatesWhole derive
 estimates-whole derive bound salt t s table-t table-s a b granted made-a made-b clear none =
@@ -109,15 +90,11 @@ estimates-whole derive bound salt t s table-t table-s a b granted made-a made-b 
 
 abbrev pub EstimatesEqual : (ℕ → ℕ) → Type 0
 EstimatesEqual derive =
-    (salt : ℕ) (t : List ℕ) → isTable derive t ≡ true → (a b : Columns) → estimateRefusal a b ≡ None
-    → MadeFrom derive salt t a → MadeFrom derive salt t b → estimateCall salt a b .answer .estimate ≡ 0
+    (salt : ℕ) (t : List ℕ) (a b : Columns) → estimateRefusal a b ≡ None
+    → MadeFrom derive salt t a → MadeFrom derive salt t b → estimateCall salt a b .answer ≡ madeAnswer (Known 0)
 
-pub estimates-equal : (derive : ℕ → ℕ) → ((h : ℕ) → h < 2 ^ 512 → derive h < 2 ^ 64) → EstimatesEqual derive
-estimates-equal derive bound salt t table a b granted made-a made-b =
-    estimates-whole derive bound salt t t table table a b granted made-a made-b
-    (λ i h. empty-clear (stratumRule salt) (differingAt derive salt t t i) (differing-self (inStratum salt i (idsOf derive t))))
-    (λ i h. empty-open (stratumRule salt) (differingAt derive salt t t i) (differing-self (inStratum salt i (idsOf derive t))))
-    ∙ ap length (differing-self (idsOf derive t))
+pub estimates-equal : (derive : ℕ → ℕ) → EstimatesEqual derive
+estimates-equal derive salt t a b granted made-a made-b = zero-equal salt a b .1 (granted, λ i h. made-a i h ∙ sym (made-b i h))
 
 -- ---- estimators that the building call made
 
@@ -144,14 +121,12 @@ EstimatesBuilt derive =
     → ((i : ℕ) → i < 32 → Clear (stratumRule salt) (differingAt derive salt t s i))
     → ((i : ℕ) → i < 32 → (q : Item → Bool) → StoppingSet (stratumRule salt) (differingAt derive salt t s i) q → ⊥)
     → estimateCall salt (estimatorCall derive salt t a .columns) (estimatorCall derive salt s b .columns) .answer
-    ≡ estimate 0 (length (differing (idsOf derive t) (idsOf derive s)))
+    ≡ madeAnswer (Known (length (differing (idsOf derive t) (idsOf derive s))))
 
 pub estimates-built : (derive : ℕ → ℕ) → ((h : ℕ) → h < 2 ^ 512 → derive h < 2 ^ 64) → EstimatesBuilt derive
 estimates-built derive bound salt t s table-t table-s a b room-a room-b clear none =
-    granted-answer salt a′ b′ granted
-    ∙ ap (estimate 0)
-    (estimates-whole derive bound salt t s table-t table-s a′ b′ granted (built-from derive salt t table-t a room-a)
-    (built-from derive salt s table-s b room-b) clear none)
+    estimates-whole derive bound salt t s table-t table-s a′ b′ granted (built-from derive salt t table-t a room-a)
+    (built-from derive salt s table-s b room-b) clear none
   where
     a′ : Columns
     a′ = estimatorCall derive salt t a .columns
@@ -174,6 +149,6 @@ pub estimate-exact : EstimatesExactly firstEight × EstimatesWhole firstEight ×
 estimate-exact = (
   estimates-exactly firstEight first-eight-below,
   estimates-whole firstEight first-eight-below,
-  estimates-equal firstEight first-eight-below,
+  estimates-equal firstEight,
   estimates-built firstEight first-eight-below,
 )

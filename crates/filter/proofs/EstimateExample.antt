@@ -18,7 +18,8 @@ use Rattle.bucket.specs.Lists.{elem, Distinct}
 use Rattle.bucket.specs.Places.{draw, candidates, firsts, placesBy}
 use Rattle.bucket.specs.Salt.{rot, salted}
 use Rattle.filter.specs.declared.answers.Verdict.the-variants.{Complete}
-use Rattle.filter.specs.Answers.{estimate}
+use Rattle.filter.specs.declared.answers.Estimate.the-variants.{Known}
+use Rattle.filter.specs.Answers.{madeAnswer}
 use Rattle.filter.specs.Lists.{rising, distinct, select, minus}
 use Rattle.filter.specs.Table.{hashAt, hashesOf, firstEight, idsOf, isTable}
 use Rattle.filter.specs.Filter.{Item, Rule, touches, cell, put, sumAt, load, filterOf}
@@ -118,14 +119,14 @@ three-differ = unfold differing minus select elem in refl
 
 pub estimates-three :
     let R = estimatorRule 0 in
-    estimateOf 0 (readings 0 32 (less (filterOf R (1 ∷ 8 ∷ [])) (filterOf R (17 ∷ [])))) ≡ 3
+    estimateOf 0 (readings 0 32 (less (filterOf R (1 ∷ 8 ∷ [])) (filterOf R (17 ∷ [])))) ≡ Known 3
 estimates-three =
     estimate-listed 0 (less f g) 32 complete
-    ∙ total-cong (λ i. length (readingAt 0 i (less f g) .listed)) (λ i. length (strays i)) 32
+    ∙ ap Known (total-cong (λ i. length (readingAt 0 i (less f g) .listed)) (λ i. length (strays i)) 32
     (λ i h. stratum-listed 0 i ourIds theirIds ours-distinct theirs-distinct ours-small theirs-small f g h (λ j k. refl) (λ j k. refl)
     (strata-clear i h) (complete i h))
     ∙ strata-differing 0 ourIds theirIds
-    ∙ three-differ
+    ∙ three-differ)
   where
     f : ℕ → Bucket
     f = filterOf (estimatorRule 0) ourIds
@@ -173,9 +174,9 @@ abbrev pub builtFrom : List ℕ → Columns
 builtFrom t = estimatorCall firstEight 0 t blank .columns
 
 -- every premise of estimates-built holds
-pub tables-three : estimateCall 0 (builtFrom ourTable) (builtFrom theirTable) .answer ≡ estimate 0 3
+pub tables-three : estimateCall 0 (builtFrom ourTable) (builtFrom theirTable) .answer ≡ madeAnswer (Known 3)
 tables-three =
     estimates-built firstEight first-eight-below 0 ourTable theirTable our-table their-table blank blank blank-room blank-room
     (λ i h. rw (our-ids, their-ids) (strata-clear i h))
     (λ i h. rw (our-ids, their-ids) (strata-open i h))
-    ∙ ap (estimate 0) (rw (our-ids, their-ids) three-differ)
+    ∙ ap (λ (n : ℕ). madeAnswer (Known n)) (rw (our-ids, their-ids) three-differ)

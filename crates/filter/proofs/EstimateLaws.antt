@@ -14,7 +14,8 @@ use Rattle.bucket.specs.Bucket.{Bucket, _⊕_, neg}
 use Rattle.bucket.specs.Columns.{Columns, columns, view, place}
 use Rattle.bucket.proofs.ColumnLaws.{SameLengths}
 use Rattle.bucket.proofs.SmallLaws.{small-fits}
-use Rattle.filter.specs.Answers.{estimate}
+use Rattle.filter.specs.declared.answers.Estimate.{Estimate}
+use Rattle.filter.specs.Answers.{madeAnswer}
 use Rattle.filter.specs.Calls.{areCounts, hasRoom, filled}
 use Rattle.filter.specs.Estimator.{less, readings, estimateOf, remaining, estimateRefusal, estimated, estimateCall}
 use Rattle.filter.specs.Steps.{Wide, Small}
@@ -157,11 +158,11 @@ module _ (a b : Columns) (x : areCounts 2528 (a .counts) && areCounts 2528 (b .c
     less-small = small-less 2528 a b (estimate-ready .0) (estimate-ready .2) (estimate-ready .3) e
 
     -- what reading it leaves is what the call does
-    pub estimate-ends : (salt : ℕ) {r : ℕ} {c′ : Columns} → r ≡ estimateOf 0 (readings salt 32 (view c))
+    pub estimate-ends : (salt : ℕ) {r : Estimate} {c′ : Columns} → r ≡ estimateOf 0 (readings salt 32 (view c))
         → c′ ≡ filled 2528 (remaining salt 32 (view c)) c
-        → estimated (estimate 0 r) c′ ≡ estimateCall salt a b
+        → estimated (madeAnswer r) c′ ≡ estimateCall salt a b
     unfolding estimateCall estimateRefusal
     estimate-ends salt p q =
         rw (x, y)
-        (λ k. estimated (estimate 0 ((p ∙ estimate-held salt 32 (less (view a) (view b)) a (estimate-ready .0) e 0) k))
+        (λ k. estimated (madeAnswer ((p ∙ estimate-held salt 32 (less (view a) (view b)) a (estimate-ready .0) e 0) k))
         ((q ∙ remaining-held salt 32 (less (view a) (view b)) a (estimate-ready .0) e) k))

@@ -52,7 +52,7 @@ use Rattle.filter.proofs.LeftLaws.{left, left-nil, Fair, End, run-end}
 
 -- ---- the verdict's tests
 
-all-zero-of : (f : ℕ → Bucket) (n : ℕ) → ((i : ℕ) → i < n → f i ≡ 𝟎) → allZero f n ≡ true
+pub all-zero-of : (f : ℕ → Bucket) (n : ℕ) → ((i : ℕ) → i < n → f i ≡ 𝟎) → allZero f n ≡ true
 unfolding allZero
 all-zero-of f zero h = refl
 all-zero-of f (suc n) h =
@@ -102,31 +102,21 @@ module _ (d l : List Item) (dd : Distinct (ids d)) (sub : (x : Item) → List·M
       go (inl k) = k
       go (inr k) = absurd (not-both (left l x) k e)
 
-  ours-listed : (a : ℕ) → elem a (oursOf l) ≡ elem a (oursOf d) && not (left l (ours a))
-  ours-listed a = same-test (elem a (oursOf l)) (elem a (oursOf d) && not (left l (ours a))) there back
-    where
-      there : elem a (oursOf l) ≡ true → elem a (oursOf d) && not (left l (ours a)) ≡ true
-      there e =
-          let m = ours-mem a l (elem-mem a (oursOf l) e) in
-          and-holds (mem-elem (mem-ours a d (sub (ours a) m))) (listed-not-left l (ours a) m)
+  -- on either side: the IDs listed are those of the difference that are not left
+  module _ (side : ℕ → Item) (of : List Item → List ℕ) (into : (a : ℕ) (m : List Item) → List·Memᴰ (side a) m → List·Memᴰ a (of m))
+      (from : (a : ℕ) (m : List Item) → List·Memᴰ a (of m) → List·Memᴰ (side a) m) where
+    side-listed : (a : ℕ) → elem a (of l) ≡ elem a (of d) && not (left l (side a))
+    side-listed a = same-test (elem a (of l)) (elem a (of d) && not (left l (side a))) there back
+      where
+        there : elem a (of l) ≡ true → elem a (of d) && not (left l (side a)) ≡ true
+        there e =
+            let m = from a l (elem-mem a (of l) e) in
+            and-holds (mem-elem (into a d (sub (side a) m))) (listed-not-left l (side a) m)
 
-      back : elem a (oursOf d) && not (left l (ours a)) ≡ true → elem a (oursOf l) ≡ true
-      back e =
-          let both = and-eq-true-iff (elem a (oursOf d)) (not (left l (ours a))) .0 e in
-          mem-elem (mem-ours a l (listed-of (ours a) (ours-mem a d (elem-mem a (oursOf d) (both .0))) (both .1)))
-
-  theirs-listed : (a : ℕ) → elem a (theirsOf l) ≡ elem a (theirsOf d) && not (left l (theirs a))
-  theirs-listed a = same-test (elem a (theirsOf l)) (elem a (theirsOf d) && not (left l (theirs a))) there back
-    where
-      there : elem a (theirsOf l) ≡ true → elem a (theirsOf d) && not (left l (theirs a)) ≡ true
-      there e =
-          let m = theirs-mem a l (elem-mem a (theirsOf l) e) in
-          and-holds (mem-elem (mem-theirs a d (sub (theirs a) m))) (listed-not-left l (theirs a) m)
-
-      back : elem a (theirsOf d) && not (left l (theirs a)) ≡ true → elem a (theirsOf l) ≡ true
-      back e =
-          let both = and-eq-true-iff (elem a (theirsOf d)) (not (left l (theirs a))) .0 e in
-          mem-elem (mem-theirs a l (listed-of (theirs a) (theirs-mem a d (elem-mem a (theirsOf d) (both .0))) (both .1)))
+        back : elem a (of d) && not (left l (side a)) ≡ true → elem a (of l) ≡ true
+        back e =
+            let both = and-eq-true-iff (elem a (of d)) (not (left l (side a))) .0 e in
+            mem-elem (into a l (listed-of (side a) (from a d (elem-mem a (of d) (both .0))) (both .1)))
 
 -- ---- the reading of table minus received filter
 
@@ -221,8 +211,10 @@ module _ (R : Rule) (placed : Placed R) (t s : List ℕ) (dt : Distinct t) (ds :
   exactly = record {
     core = core;
     is-core = record { closed = closed; largest = largest };
-    ours-are = λ a. ours-listed d (r .listed) dd (end .state .from) a ∙ ap (λ (l : List ℕ). elem a l && not (core (ours a))) (differing-ours t s);
-    theirs-are = λ a. theirs-listed d (r .listed) dd (end .state .from) a ∙ ap (λ (l : List ℕ). elem a l && not (core (theirs a))) (differing-theirs t s);
+    ours-are = λ a. side-listed d (r .listed) dd (end .state .from) ours oursOf mem-ours ours-mem a
+        ∙ ap (λ (l : List ℕ). elem a l && not (core (ours a))) (differing-ours t s);
+    theirs-are = λ a. side-listed d (r .listed) dd (end .state .from) theirs theirsOf mem-theirs theirs-mem a
+        ∙ ap (λ (l : List ℕ). elem a l && not (core (theirs a))) (differing-theirs t s);
     once = distinct-append (oursOf (r .listed)) (theirsOf (r .listed)) (distinct-ours (r .listed) dl) (distinct-theirs (r .listed) dl) (sides-apart (r .listed) dl);
     whole = λ none-there. ap isComplete (whole none-there);
     stopped = λ q k. ap isComplete (stopped q k);

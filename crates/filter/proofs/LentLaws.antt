@@ -16,11 +16,13 @@ use Rattle.bucket.specs.Columns.{Columns, columns, view}
 use Rattle.bucket.specs.Lists.{elem}
 use Rattle.bucket.proofs.BucketLaws.{bucket-same, ⊕-idr}
 use Rattle.bucket.proofs.ColumnLaws.{SameLengths}
+use Rattle.filter.specs.declared.answers.Verdict.{Verdict}
+use Rattle.filter.specs.declared.strata.Stratum.the-variants.{Lists, Fails}
 use Rattle.filter.specs.Filter.{Item}
 use Rattle.filter.specs.Peeling.{Outcome, isComplete, reading}
 use Rattle.filter.specs.Calls.{filled}
 use Rattle.filter.specs.Estimator.{stratumRule, stratum, withStratum, strataVerdict, leftBy, leftAt, readingAt}
-use Rattle.filter.specs.Steps.{Wide, Small, Counted, spread}
+use Rattle.filter.specs.Steps.{Wide, Small, counted, spread}
 use Rattle.filter.proofs.FilledLaws.{wide-less, filled-is-lengths, view-filled-in, filled-of, filled-cong}
 use Rattle.filter.proofs.PeelLaws.{reading-cong}
 use Rattle.filter.proofs.StrataLaws.{in-stratum, elem-moved, moved-from, with-stratum-in, with-stratum-out, Like, verdict-like, left-like}
@@ -257,14 +259,10 @@ module _ (salt s : ℕ) (c : Columns) (h : s < 32) (w : Wide 2528 c) where
   reading-lent : Like salt (reading (stratumRule salt) (view (lent s c))) (readingAt salt s (view c))
   reading-lent = reading-cong (stratumRule salt) (view (lent s c)) (stratum s (view c)) (view-stratum s c h w)
 
-  pub stratum-counted : (complete : Bool) (listed : ℕ) → Counted (reading (stratumRule salt) (view (lent s c))) complete listed
-      → Counted (readingAt salt s (view c)) complete listed
-  stratum-counted complete listed t = record {
-    complete-is =
-        t .complete-is ∙ ap isComplete (verdict-like salt (reading (stratumRule salt) (view (lent s c))) (readingAt salt s (view c)) reading-lent);
-    listed-is = λ e. t .listed-is e ∙ ap (λ (l : List Item). length l) (reading-lent .listed);
-    few = t .few;
-  }
+  pub stratum-counted : counted (reading (stratumRule salt) (view (lent s c))) ≡ counted (readingAt salt s (view c))
+  stratum-counted =
+      ap₂ (λ (v : Verdict) (l : List Item). cond (isComplete v) (Lists (length l)) Fails)
+      (verdict-like salt (reading (stratumRule salt) (view (lent s c))) (readingAt salt s (view c)) reading-lent) (reading-lent .listed)
 
   pub stratum-left : (p : Columns)
       → p ≡ filled 79 (leftBy (strataVerdict (reading (stratumRule salt) (view (lent s c)))) (reading (stratumRule salt) (view (lent s c)))) (lent s c)

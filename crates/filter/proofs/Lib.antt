@@ -41,5 +41,7 @@ pub mod LayerLaws
 pub mod EstimateLaws
 pub mod TallyLaws
 pub mod StratumLaws
+pub mod KnownLaws
+pub mod EstimateKnown
 pub mod EstimateExact
 pub mod EstimateExample

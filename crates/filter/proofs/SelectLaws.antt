@@ -249,11 +249,3 @@ distinct-select p (a ∷ l) d =
 pub distinct-minus : (t s : List ℕ) → Distinct t → Distinct (minus t s)
 unfolding minus
 distinct-minus t s = distinct-select (λ a. not (elem a s)) t
-
-select-none : (p : ℕ → Bool) (l : List ℕ) → ((a : ℕ) → List·Memᴰ a l → p a ≡ false) → select p l ≡ []
-select-none p [] h = unfold select in refl
-select-none p (a ∷ l) h = select-no p a l (h a (head refl)) ∙ select-none p l (λ b m. h b (tail m))
-
-pub minus-self : (t : List ℕ) → minus t t ≡ []
-unfolding minus
-minus-self t = select-none (λ a. not (elem a t)) t (λ a m. ap not (mem-elem m))

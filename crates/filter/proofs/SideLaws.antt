@@ -13,7 +13,7 @@ use Rattle.filter.specs.Lists.{minus}
 use Rattle.filter.specs.Filter.{Item, ours, theirs, idOf, ids, oursOf, theirsOf}
 use Rattle.filter.specs.Peeling.{onSide, agrees}
 use Rattle.filter.specs.Stopping.{differing}
-use Rattle.filter.proofs.SelectLaws.{not-both, elem-mem, mem-elem, key-same, distinct-append, distinct-minus, mem-minus, mem-minus-not, minus-self}
+use Rattle.filter.proofs.SelectLaws.{not-both, elem-mem, mem-elem, key-same, distinct-append, distinct-minus, mem-minus, mem-minus-not}
 
 pub ours-of : (a b : List ℕ) → oursOf (map ours a ++ map theirs b) ≡ a
 unfolding oursOf
@@ -170,7 +170,3 @@ differing-agrees t s l h = agrees-of t l (λ x m. differing-side t s x (h x m))
 pub differing-length : (t s : List ℕ) → length (differing t s) ≡ length (minus t s) + length (minus s t)
 differing-length t s =
     sym (sides-length (differing t s)) ∙ ap₂ (λ (a b : List ℕ). length a + length b) (differing-ours t s) (differing-theirs t s)
-
-pub differing-self : (t : List ℕ) → differing t t ≡ []
-unfolding differing
-differing-self t = ap₂ (λ (a b : List ℕ). map ours a ++ map theirs b) (minus-self t) (minus-self t)

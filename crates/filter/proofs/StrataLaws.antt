@@ -14,6 +14,8 @@ use Rattle.bucket.specs.Columns.{Columns, view}
 use Rattle.bucket.specs.Lists.{elem}
 use Rattle.bucket.specs.Salt.{rot, salted}
 use Rattle.bucket.proofs.ListLaws.{elem-nil, elem-cases, elem-head, elem-tail}
+use Rattle.filter.specs.declared.answers.Estimate.{Estimate}
+use Rattle.filter.specs.declared.answers.Estimate.the-variants.{Known, Unknown}
 use Rattle.filter.specs.declared.answers.Verdict.{Verdict}
 use Rattle.filter.specs.declared.answers.Verdict.the-variants.{Complete, Stuck, False}
 use Rattle.filter.specs.Filter.{Item}
@@ -26,6 +28,7 @@ use Rattle.filter.specs.Estimator.{
   strataVerdict,
   readingAt,
   readings,
+  sampled,
   estimateOf,
   leftBy,
   leftAt,
@@ -127,6 +130,15 @@ cond-at : (t : Bool) (f g f′ g′ : ℕ → Bucket) (b : ℕ) → f b ≡ f′
 cond-at true f g f′ g′ b p q = p
 cond-at false f g f′ g′ b p q = q
 
+-- the estimate at a stratum that is not complete, by what is listed above it
+pub sampled-cases : (total i : ℕ) (P : Estimate → Type 0) → (total ≡ 0 → P Unknown) → (0 < total → P (Known (total * 2 ^ (i + 1)))) → P (sampled total i)
+unfolding sampled
+sampled-cases total i P none some = by (eqb total 0) refl
+  where
+    by : (t : Bool) → eqb total 0 ≡ t → P (cond t Unknown (Known (total * 2 ^ (i + 1))))
+    by true t = none (eqb-true total 0 t)
+    by false t = some (omega (arith, eqb-false total 0 t))
+
 module _ (salt : ℕ) where
   pub readings-length : (n : ℕ) (f : ℕ → Bucket) → length (readings salt n f) ≡ n
   unfolding readings
@@ -148,6 +160,15 @@ module _ (salt : ℕ) where
       cond-same (eqb (b / 79) s)
       (left-like salt (readingAt salt s f) (readingAt salt s g) (reading-at-cong s f g (λ i k. e i (omega arith))) (b % 79) (omega arith)) (e b h)
 
+  -- the estimate, one stratum further down, by how that one ends
+  pub estimate-step : (f : ℕ → Bucket) (n total : ℕ) (b : Bool) → isComplete (strataVerdict (readingAt salt n f)) ≡ b
+      → estimateOf total (readings salt (suc n) f)
+      ≡ cond b (estimateOf (total + length (readingAt salt n f .listed)) (readings salt n f)) (sampled total n)
+  unfolding readings estimateOf
+  estimate-step f n total b e =
+      ap₂ (λ (t : Bool) (m : ℕ). cond t (estimateOf (total + length (readingAt salt n f .listed)) (readings salt n f)) (sampled total m)) e
+      (readings-length n f)
+
   -- two functions that agree below 79 n give the same estimate
   pub estimate-cong : (n : ℕ) (f g : ℕ → Bucket) (total : ℕ) → Agree (79 * n) f g
       → estimateOf total (readings salt n f) ≡ estimateOf total (readings salt n g)
@@ -157,7 +178,7 @@ module _ (salt : ℕ) where
       let a = reading-at-cong n f g e in
       let more = ap (λ (l : List Item). estimateOf (total + length l) (readings salt n f)) (a .listed)
       ∙ estimate-cong n f g (total + length (readingAt salt n g .listed)) (λ b h. e b (omega arith)) in
-      let last = ap (λ (m : ℕ). total * 2 ^ (m + 1)) (readings-length n f ∙ sym (readings-length n g)) in
+      let last = ap (sampled total) (readings-length n f ∙ sym (readings-length n g)) in
       λ k. cond (complete-cong n f g e k) (more k) (last k)
 
   -- and where they agree below m, at least 79 n, the same is left below m

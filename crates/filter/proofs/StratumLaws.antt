@@ -20,17 +20,17 @@ use Rattle.bucket.proofs.BucketLaws.{⊕-idl}
 use Rattle.bucket.proofs.CountLaws.{stratum-le}
 use Rattle.bucket.proofs.ListLaws.{distinct-count}
 use Rattle.bucket.proofs.PlaceLaws.{places-below}
-use Rattle.filter.specs.declared.answers.Verdict.{Verdict}
+use Rattle.filter.specs.declared.answers.Estimate.the-variants.{Known}
 use Rattle.filter.specs.declared.answers.Verdict.the-variants.{Complete, Stuck}
 use Rattle.filter.specs.Lists.{select, minus}
-use Rattle.filter.specs.Filter.{Item, ours, theirs, ids, oursOf, theirsOf, Rule, touches, cell, put, sumAt, load, filterOf, difference}
+use Rattle.filter.specs.Filter.{Item, ours, theirs, ids, oursOf, theirsOf, Rule, touches, cell, put, sumAt, filterOf, difference}
 use Rattle.filter.specs.Peeling.{Outcome, allZero, agrees, verdictBy, isComplete, reading, verdict}
 use Rattle.filter.specs.Stopping.{differing, Clear, StoppingSet, Exactly}
 use Rattle.filter.specs.Estimator.{estimatorRule, inStratum, stratumRule, stratum, less, strataVerdict, readingAt, readings, estimateOf}
 use Rattle.filter.proofs.SelectLaws.{elem-mem, mem-select, distinct-minus, minus-select, distinct-select}
 use Rattle.filter.proofs.SideLaws.{ours-mem, theirs-mem, distinct-ours, distinct-theirs, differing-ours, differing-theirs, sides-length, differing-length}
 use Rattle.filter.proofs.PeelLaws.{reading-cong}
-use Rattle.filter.proofs.StrataLaws.{elem-stratum, Like, verdict-like}
+use Rattle.filter.proofs.StrataLaws.{elem-stratum, Like, verdict-like, estimate-step}
 use Rattle.filter.proofs.SoundLaws.{verdict-complete, reading-distinct}
 use Rattle.filter.proofs.LeftLaws.{Fair}
 use Rattle.filter.proofs.ExactLaws.{Placed, exactly, never-false, whole}
@@ -226,19 +226,18 @@ strata-differing salt t s =
     ∙ sym (differing-length t s)
 
 estimate-total : (salt : ℕ) (f : ℕ → Bucket) (n sum : ℕ) → ((i : ℕ) → i < n → strataVerdict (readingAt salt i f) ≡ Complete)
-    → estimateOf sum (readings salt n f) ≡ sum + total (λ i. length (readingAt salt i f .listed)) n
+    → estimateOf sum (readings salt n f) ≡ Known (sum + total (λ i. length (readingAt salt i f .listed)) n)
 unfolding estimateOf readings total
-estimate-total salt f zero sum h = omega arith
+estimate-total salt f zero sum h = ap Known (omega arith)
 estimate-total salt f (suc n) sum h =
-    ap (λ (v : Verdict). cond (isComplete v) (estimateOf (sum + length (readingAt salt n f .listed)) (readings salt n f))
-    (sum * 2 ^ (length (readings salt n f) + 1))) (h n (omega arith))
+    estimate-step salt f n sum true (ap isComplete (h n (omega arith)))
     ∙ estimate-total salt f n (sum + length (readingAt salt n f .listed)) (λ i k. h i (omega arith))
-    ∙ omega arith
+    ∙ ap Known (omega arith)
 
 -- "If all are complete the estimate is the total listed."
 pub estimate-listed : (salt : ℕ) (f : ℕ → Bucket) (n : ℕ) → ((i : ℕ) → i < n → strataVerdict (readingAt salt i f) ≡ Complete)
-    → estimateOf 0 (readings salt n f) ≡ total (λ i. length (readingAt salt i f .listed)) n
-estimate-listed salt f n h = estimate-total salt f n 0 h ∙ omega arith
+    → estimateOf 0 (readings salt n f) ≡ Known (total (λ i. length (readingAt salt i f .listed)) n)
+estimate-listed salt f n h = estimate-total salt f n 0 h ∙ ap Known (omega arith)
 
 -- ---- one stratum of the difference of two estimators
 
@@ -289,19 +288,3 @@ module _ (salt i : ℕ) (t s : List ℕ) (dt : Distinct t) (ds : Distinct s) (sm
       verdict-like salt (readingAt salt i (less f g)) alone alike
       ∙ without-table R tᵢ alone
       (whole R rule-placed tᵢ sᵢ (stratum-distinct salt i t dt) (stratum-distinct salt i s ds) (filterOf R sᵢ) (λ j h. refl) rule-fair none)
-
--- ---- nothing differs
-
--- nothing is clear, and has no stopping set
-module _ (R : Rule) (d : List Item) (empty : d ≡ []) where
-  pub empty-clear : Clear R d
-  empty-clear p i h busy = absurd (none (rw empty at busy))
-    where
-      none : 2 ≤ load R (select p []) i → ⊥
-      none k = unfold load select in omega arith
-
-  pub empty-open : (q : Item → Bool) → StoppingSet R d q → ⊥
-  empty-open q k = nobody (rw empty at (k .belongs))
-    where
-      nobody : List·Memᴰ (k .someone) [] → ⊥
-      nobody m = elim m [ ]

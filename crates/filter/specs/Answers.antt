@@ -3,7 +3,7 @@
 --   refusalNumber r     the number of a refusal (document 01, "Refusal numbers"), 0 for none
 --   firstOf ts          the refusal of the first test of ts that does not hold
 --   answerOf r          a reading's answer as numbers: refusal, complete, and the lengths of the two lists
---   estimateAnswer e    an estimate's answer as numbers: refusal and estimate
+--   estimateAnswer e    an estimate's answer as numbers: refusal, known, and the estimate
 --
 -- Assumes nothing.
 use mathlib.Core.Bool.{Bool, cond}
@@ -14,9 +14,11 @@ use Rattle.filter.specs.declared.answers.Refusal.the-variants.{None, For
 use Rattle.filter.specs.declared.answers.Reading.{Reading}
 use Rattle.filter.specs.declared.answers.Reading.the-variants.{Complete, Stuck, BadForm, BadRange, NoRoom, Untrue}
 use Rattle.filter.specs.declared.answers.ReadAnswer.{ReadAnswer}
+use Rattle.filter.specs.declared.answers.Estimate.{Estimate}
+use Rattle.filter.specs.declared.answers.Estimate.the-variants.{Known, Unknown}
 use Rattle.filter.specs.declared.answers.Estimation.{Estimation}
 use Rattle.filter.specs.declared.answers.Estimation.the-variants.{Made, NotCounts, TooShort}
-use Rattle.filter.specs.declared.answers.Estimate.{Estimate}
+use Rattle.filter.specs.declared.answers.EstimateAnswer.{EstimateAnswer}
 
 abbrev pub refusalNumber : Refusal → ℕ
 refusalNumber None = 0
@@ -48,11 +50,15 @@ answerOf BadRange = answer (refusalNumber Range) 0 0 0
 answerOf NoRoom = answer (refusalNumber Room) 0 0 0
 answerOf Untrue = answer (refusalNumber FalseReading) 0 0 0
 
--- an estimate's answer: the refusal's number and the estimate, 0 where it is refused
-abbrev pub estimate : ℕ → ℕ → Estimate
-estimate n e = record { refusal = n; estimate = e }
+-- an estimate's answer: the refusal's number, 1 for known, and the estimate, 0 where it is unknown or refused
+abbrev pub estimate : ℕ → ℕ → ℕ → EstimateAnswer
+estimate n k e = record { refusal = n; known = k; estimate = e }
 
-abbrev pub estimateAnswer : Estimation → Estimate
-estimateAnswer (Made e) = estimate (refusalNumber None) e
-estimateAnswer NotCounts = estimate (refusalNumber Form) 0
-estimateAnswer TooShort = estimate (refusalNumber Room) 0
+abbrev pub madeAnswer : Estimate → EstimateAnswer
+madeAnswer (Known e) = estimate (refusalNumber None) 1 e
+madeAnswer Unknown = estimate (refusalNumber None) 0 0
+
+abbrev pub estimateAnswer : Estimation → EstimateAnswer
+estimateAnswer (Made e) = madeAnswer e
+estimateAnswer NotCounts = estimate (refusalNumber Form) 0 0
+estimateAnswer TooShort = estimate (refusalNumber Room) 0 0

@@ -1,4 +1,4 @@
--- The estimator (document 01, "Estimator"): how different two tables are, before a filter's size is chosen.
+-- The estimator (document 01, "Estimator"; document 02, Req 02): how different two tables are, before a filter's size is chosen.
 --
 --   estimatorRule salt     32 strata of 79 buckets as one rule: an element's places lie in its stratum
 --   stratumRule salt       the rule of one stratum, for its reading
@@ -7,6 +7,7 @@
 --   withStratum s g f      the buckets f, with g as stratum s
 --   readings salt n f      how the readings of strata n − 1 down to 0 end
 --   estimateOf total rs    the estimate: a total listed so far, and the readings of the strata still to come, down to stratum 0
+--   sampled total i        the estimate where stratum i is the first that is not complete, and the total is listed above it
 --   remaining salt n f     what is left of f when strata n − 1 and below are read, down to the first that is not complete
 --   estimatorCall ..       the estimator of a table in three lent columns
 --   estimateCall ..        the second estimator subtracted from the first, and read
@@ -29,7 +30,9 @@ use Rattle.filter.specs.declared.answers.Refusal.the-variants.{Form, Roo
 use Rattle.filter.specs.declared.answers.Verdict.{Verdict}
 use Rattle.filter.specs.declared.answers.Verdict.the-variants.{Complete, Stuck, False}
 use Rattle.filter.specs.declared.answers.Estimate.{Estimate}
-use Rattle.filter.specs.Answers.{refusalNumber, firstOf, estimate}
+use Rattle.filter.specs.declared.answers.Estimate.the-variants.{Known, Unknown}
+use Rattle.filter.specs.declared.answers.EstimateAnswer.{EstimateAnswer}
+use Rattle.filter.specs.Answers.{refusalNumber, firstOf, estimate, madeAnswer}
 use Rattle.filter.specs.Lists.{select}
 use Rattle.filter.specs.Table.{idsOf, isTable}
 use Rattle.filter.specs.Filter.{Rule, rule, filterOf}
@@ -75,12 +78,15 @@ unfoldable pub readings : ℕ → ℕ → (ℕ → Bucket) → List Outcome
 readings salt zero f = []
 readings salt (suc n) f = readingAt salt n f ∷ readings salt n f
 
--- "If all are complete the estimate is the total listed. At the first stratum i that is not, be it stuck or false, it is the total of the strata
--- above times 2^(i+1)". The readings go down to stratum 0, so i is how many are behind.
-unfoldable pub estimateOf : ℕ → List Outcome → ℕ
-estimateOf total [] = total
-estimateOf total (r ∷ rs) =
-    cond (isComplete (strataVerdict r)) (estimateOf (total + length (r .listed)) rs) (total * 2 ^ (length rs + 1))
+-- "At the first stratum i that is not, be it stuck or false, it is the total of the strata above times 2^(i+1)"; but "if a stratum is not
+-- complete and the total above it is zero, the answer is "unknown", carried as an answer of its own and never as a number" (02, Req 02)
+unfoldable pub sampled : ℕ → ℕ → Estimate
+sampled total i = cond (eqb total 0) Unknown (Known (total * 2 ^ (i + 1)))
+
+-- "If all are complete the estimate is the total listed." The readings go down to stratum 0, so the number of a stratum is how many are behind it.
+unfoldable pub estimateOf : ℕ → List Outcome → Estimate
+estimateOf total [] = Known total
+estimateOf total (r ∷ rs) = cond (isComplete (strataVerdict r)) (estimateOf (total + length (r .listed)) rs) (sampled total (length rs))
 
 -- "those read are left as their readings leave them": a false one zero, as refusal 6 leaves a filter
 abbrev pub leftBy : Verdict → Outcome → ℕ → Bucket
@@ -115,10 +121,10 @@ estimateRefusal a b =
     ∷ [])
 
 pub record Estimated : Type 0 where
-  pub answer : Estimate
+  pub answer : EstimateAnswer
   pub columns : Columns
 
-abbrev pub estimated : Estimate → Columns → Estimated
+abbrev pub estimated : EstimateAnswer → Columns → Estimated
 estimated e c = record { answer = e; columns = c }
 
 -- "in the first's columns"; the second's are lent to be read alone
@@ -126,5 +132,5 @@ unfoldable pub estimateCall : ℕ → Columns → Columns → Estimated
 estimateCall salt a b =
     let n = refusalNumber (estimateRefusal a b) in
     cond (eqb n 0)
-    (estimated (estimate 0 (estimateOf 0 (readings salt 32 (less (view a) (view b))))) (filled 2528 (remaining salt 32 (less (view a) (view b))) a))
-    (estimated (estimate n 0) a)
+    (estimated (madeAnswer (estimateOf 0 (readings salt 32 (less (view a) (view b))))) (filled 2528 (remaining salt 32 (less (view a) (view b))) a))
+    (estimated (estimate n 0 0) a)

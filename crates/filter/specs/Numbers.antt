@@ -25,9 +25,10 @@ use Rattle.bucket.specs.Places.{draw, crcNext, candidate, candidates, firsts, p
 use Rattle.bucket.proofs.PlaceLaws.{place-count-37}
 use Rattle.filter.specs.declared.answers.Refusal.the-variants.{None, Form, Room, Range, Malformed, OutOfTurn, FalseReading, Breach, Checksum, Swaps, Limit}
 use Rattle.filter.specs.declared.answers.Reading.the-variants.{Complete, Stuck, BadForm, BadRange, NoRoom, Untrue}
+use Rattle.filter.specs.declared.answers.Estimate.the-variants.{Known, Unknown}
 use Rattle.filter.specs.declared.answers.Estimation.the-variants.{Made, NotCounts, TooShort}
 use Rattle.filter.specs.declared.answers.Verdict.the-variants as verdicts
-use Rattle.filter.specs.Answers.{refusalNumber, answer, answerOf, estimate, estimateAnswer}
+use Rattle.filter.specs.Answers.{refusalNumber, answer, answerOf, estimate, madeAnswer, estimateAnswer}
 use Rattle.filter.specs.Lists.{ascending, distinct}
 use Rattle.filter.specs.Table.{hashesOf, firstEight, idsOf, isTable}
 use Rattle.filter.specs.Filter.{Item, ours, theirs, Rule, touches, cell, put, sumAt, filterOf, difference}
@@ -39,6 +40,7 @@ use Rattle.filter.specs.Estimator.{
   stratum,
   less,
   readings,
+  sampled,
   estimateOf,
   remaining,
   estimatorRefusal,
@@ -58,12 +60,15 @@ worked = record { size = 6; code = λ a. a; decode = λ a. a; places = given; ch
 abbrev pub workedReading : Outcome
 workedReading = reading worked (difference worked (1 ∷ 2 ∷ 3 ∷ []) (filterOf worked []))
 
--- a stratum's reading that is complete with some items listed, and one that is stuck
+-- a stratum's reading that is complete with some items listed, one that is stuck, and one that is false though all is zero
 abbrev pub whole : List Item → Outcome
 whole l = ended true l (λ i. 𝟎)
 
 abbrev pub stuck : Outcome
 stuck = ended true [] (λ i. bucket 0 0 (pos 2))
+
+abbrev pub untrue : Outcome
+untrue = ended false [] (λ i. 𝟎)
 
 -- strata 31 to 4 list three IDs, stratum 3 is stuck, and strata 2 to 0 would list one each
 abbrev pub workedStrata : List Outcome
@@ -90,7 +95,7 @@ pub numbers :
     × (stratumOf 8 ≡ 3)
     × (stratumOf 0 ≡ 31)
     × (length workedStrata ≡ 32)
-    × (estimateOf 0 workedStrata ≡ 48)
+    × (estimateOf 0 workedStrata ≡ Known 48)
     -- "r is listed, p and q remain"
     × (workedReading .listed ≡ ours 3 ∷ [])
     × (verdict worked (1 ∷ 2 ∷ 3 ∷ []) workedReading ≡ verdicts.Stuck)
@@ -100,7 +105,7 @@ pub numbers :
     × (workedReading .rest 3 ≡ 𝟎)
     × (workedReading .rest 4 ≡ 𝟎)
 unfolding salted rot packed groups joined widthOf stratumOf trailingZeros leadingZeros _⊕_ neg 𝟎 reading run next first look isPure difference filterOf
-    sumAt put touches cell remove elem verdict allZero isZero agrees estimateOf
+    sumAt put touches cell remove elem verdict allZero isZero agrees estimateOf sampled
 numbers = (
   refl,
   refl,
@@ -160,7 +165,9 @@ pub constants :
     -- a reading's answer: complete is 1 and stuck 0, both with their lists' lengths and no refusal; what is refused has neither
     × (map answerOf (Complete 5 7 ∷ Stuck 5 7 ∷ []) ≡ answer 0 1 5 7 ∷ answer 0 0 5 7 ∷ [])
     × (map answerOf (BadForm ∷ BadRange ∷ NoRoom ∷ Untrue ∷ []) ≡ answer 1 0 0 0 ∷ answer 3 0 0 0 ∷ answer 2 0 0 0 ∷ answer 6 0 0 0 ∷ [])
-    × (map estimateAnswer (Made 48 ∷ NotCounts ∷ TooShort ∷ []) ≡ estimate 0 48 ∷ estimate 1 0 ∷ estimate 2 0 ∷ [])
+    -- an estimate's: known is 1 and unknown 0; what is unknown or refused has no number
+    × (map estimateAnswer (Made (Known 48) ∷ Made (Known 0) ∷ Made Unknown ∷ []) ≡ estimate 0 1 48 ∷ estimate 0 1 0 ∷ estimate 0 0 0 ∷ [])
+    × (map estimateAnswer (NotCounts ∷ TooShort ∷ []) ≡ estimate 1 0 0 ∷ estimate 2 0 0 ∷ [])
     -- "A filter has 37 to 4,096 buckets", "Salt is 0 to 63"
     × (map (λ size. inRange size 0) (36 ∷ 37 ∷ 4096 ∷ 4097 ∷ []) ≡ false ∷ true ∷ true ∷ false ∷ [])
     × (map (inRange 37) (63 ∷ 64 ∷ []) ≡ true ∷ false ∷ [])
@@ -194,12 +201,20 @@ pub constants :
     -- "all strata, in the first's columns, and read from stratum 31 downwards"
     × ((a b : Columns) → estimateRefusal a b ≡ None
     → let d = less (view a) (view b) in
-    estimateCall 0 a b ≡ estimated (estimate 0 (estimateOf 0 (readings 0 32 d))) (filled 2528 (remaining 0 32 d) a))
+    estimateCall 0 a b ≡ estimated (madeAnswer (estimateOf 0 (readings 0 32 d))) (filled 2528 (remaining 0 32 d) a))
+    -- 02, Req 02: "if a stratum is not complete and the total above it is zero, the answer is "unknown"": stratum 31 stuck, stratum 0 false
+    × (estimateOf 0 (stuck ∷ replicate 31 (whole [])) ≡ Unknown)
+    × (estimateOf 0 (replicate 31 (whole []) ++ (untrue ∷ [])) ≡ Unknown)
+    -- "All other estimates stay": one listed in stratum 31, and stratum 30 false; all complete
+    × (estimateOf 0 (whole (ours 1 ∷ []) ∷ untrue ∷ replicate 30 (whole [])) ≡ Known 2147483648)
+    × (estimateOf 0 (replicate 32 (whole [])) ≡ Known 0)
+    × (estimateOf 0 (replicate 31 (whole []) ++ (whole (ours 1 ∷ []) ∷ [])) ≡ Known 1)
     -- "readers take 1 to 32" as a width
     × (map isWidth (0 ∷ 1 ∷ 32 ∷ 33 ∷ []) ≡ false ∷ true ∷ true ∷ false ∷ [])
 unfolding inRange allCounts isTable firstEight crc32 feed steps crcOf groups draw stratumOf trailingZeros placesBy firsts candidates elem stratum
-    estimatorRefusal estimateRefusal hasRoom distinct hashesOf idsOf tabulated estimateCall
+    estimatorRefusal estimateRefusal hasRoom distinct hashesOf idsOf tabulated estimateCall estimateOf sampled allZero isZero 𝟎
 constants = (
+  refl,
   refl,
   refl,
   refl,
@@ -236,5 +251,10 @@ constants = (
   refl,
   refl,
   λ a b e. rw e refl,
+  refl,
+  refl,
+  refl,
+  refl,
+  refl,
   refl,
 )

@@ -11,7 +11,7 @@
 --   shows R f            the buckets below the size that look pure
 --   Listed ..            two lists hold the IDs of items, in peel order
 --   Peels ..             what a peeling leaves
---   Counted ..           how a stratum's reading is counted
+--   counted r            how a stratum's reading is counted
 --
 -- Assumes nothing.
 use mathlib.Core.Path.{_≡_}
@@ -28,6 +28,8 @@ use Rattle.bucket.specs.Crc.{crcOf}
 use Rattle.bucket.specs.Lists.{elem, over}
 use Rattle.bucket.specs.Places.{places}
 use Rattle.bucket.specs.Salt.{salted, unsalted}
+use Rattle.filter.specs.declared.strata.Stratum.{Stratum}
+use Rattle.filter.specs.declared.strata.Stratum.the-variants.{Lists, Fails}
 use Rattle.filter.specs.Table.{firstEight, isTable}
 use Rattle.filter.specs.Filter.{Item, Rule, oursOf, theirsOf}
 use Rattle.filter.specs.Peeling.{Outcome, isPure, isComplete}
@@ -108,7 +110,5 @@ pub record Peels (size : ℕ) (q : Outcome) (c₀ : Columns) (o₀ t₀ : List �
   pub kept : c ≡ filled size rest c₀
 
 -- r is the definition's reading of the stratum
-pub record Counted (r : Outcome) (complete : Bool) (listed : ℕ) : Type 0 where
-  pub complete-is : complete ≡ isComplete (strataVerdict r)
-  pub listed-is : complete ≡ true → listed ≡ length (r .listed)
-  pub few : listed ≤ 79
+abbrev pub counted : Outcome → Stratum
+counted r = cond (isComplete (strataVerdict r)) (Lists (length (r .listed))) Fails

@@ -1,6 +1,6 @@
 // What calls answer, as enums. The definitions of specs/Answers give document 01's number and values for each case.
 ghost use mathlib.Core.Path.{_≡_};
-ghost use Rattle.filter.specs.Answers.{refusalNumber, answer, answerOf, estimate, estimateAnswer};
+ghost use Rattle.filter.specs.Answers.{refusalNumber, answer, answerOf, estimate, estimateAnswer, madeAnswer};
 
 // Why a call is refused (document 01, "Refusal numbers"), for every layer.
 pub enum Refusal {
@@ -61,19 +61,26 @@ pub struct ReadAnswer {
     pub theirs: usize,
 }
 
+// How many IDs differ, or that nothing is known of it: "an answer of its own and never .. a number" (document 02, Req 02).
+pub enum Estimate {
+    Known(u64),
+    Unknown,
+}
+
 // What an estimating call answers: the estimate, or why it is refused.
 pub enum Estimation {
-    Made { estimate: u64 },
+    Made(Estimate),
     // a COUNT of one of the estimators is out of range
     NotCounts,
     // a column is too short
     TooShort,
 }
 
-// The same in numbers.
+// The same in numbers: the refusal's, 1 for known, and the estimate, 0 where there is none.
 #[repr(C)]
-pub struct Estimate {
+pub struct EstimateAnswer {
     pub refusal: u32,
+    pub known: u32,
     pub estimate: u64,
 }
 
@@ -119,21 +126,31 @@ fn answer_with(why: Refusal, complete: u32, ours: usize, theirs: usize) -> ReadA
     }
 }
 
-pub fn estimate_numbers(e: Estimation) -> Estimate
+pub fn estimate_numbers(e: Estimation) -> EstimateAnswer
     ensures { λ n. ⌜ n ≡ estimateAnswer e ⌝ }
 {
     match e {
-        Estimation::Made { estimate } => estimate_with(Refusal::None, estimate),
-        Estimation::NotCounts => estimate_with(Refusal::Form, 0),
-        Estimation::TooShort => estimate_with(Refusal::Room, 0),
+        Estimation::Made(estimate) => made_numbers(estimate),
+        Estimation::NotCounts => estimate_with(Refusal::Form, 0, 0),
+        Estimation::TooShort => estimate_with(Refusal::Room, 0, 0),
     }
 }
 
-fn estimate_with(why: Refusal, e: u64) -> Estimate
-    ensures { λ n. ⌜ n ≡ estimate (refusalNumber why) e ⌝ }
+fn made_numbers(e: Estimate) -> EstimateAnswer
+    ensures { λ n. ⌜ n ≡ madeAnswer e ⌝ }
 {
-    Estimate {
+    let Estimate::Known(number) = e else {
+        return estimate_with(Refusal::None, 0, 0);
+    };
+    estimate_with(Refusal::None, 1, number)
+}
+
+fn estimate_with(why: Refusal, known: u32, number: u64) -> EstimateAnswer
+    ensures { λ n. ⌜ n ≡ estimate (refusalNumber why) known number ⌝ }
+{
+    EstimateAnswer {
         refusal: refusal_number(why),
-        estimate: e,
+        known: known,
+        estimate: number,
     }
 }

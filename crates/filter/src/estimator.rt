@@ -39,7 +39,8 @@ fn fill(table: &[u8], ids: &mut [u64], hashes: &mut [u32], counts: &mut [i64])
 }
 
 // The estimate of how many IDs are in only one of the tables that two estimators were made from. The second is subtracted from the first, in the
-// first's columns, and the difference read stratum by stratum, the highest first, up to the first that is not complete.
+// first's columns, and the difference read stratum by stratum, the highest first, up to the first that is not complete. Where nothing is listed
+// above that one, nothing is known.
 // Refused: a COUNT outside 0 to 2^32 − 1 in either, then a column shorter than 2,528; then nothing is changed.
 pub fn estimate(
     ids: &mut [u64],
@@ -63,8 +64,7 @@ pub fn estimate(
     }
     crate::strata::subtract(ids, hashes, counts, ids2, hashes2, counts2, 2528);
     let tab = bucket::crc::tables();
-    let e = crate::strata::read_all(&tab, ids, hashes, counts, 0);
-    Estimation::Made { estimate: e }
+    Estimation::Made(crate::strata::read_all(&tab, ids, hashes, counts, 0))
 }
 
 fn are_counts(counts: &[i64], counts2: &[i64]) -> bool

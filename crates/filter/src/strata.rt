@@ -5,9 +5,10 @@ ghost use Rattle.bucket.specs.Columns.{columns, view};
 ghost use Rattle.bucket.specs.Crc.{crcTables};
 ghost use Rattle.filter.specs.Peeling.{reading};
 ghost use Rattle.filter.specs.Calls.{filled};
-ghost use Rattle.filter.specs.Estimator.{stratumRule, strataVerdict, readingAt, readings, estimateOf, leftBy, leftAt, remaining, less};
+ghost use Rattle.filter.specs.Estimator.{stratumRule, strataVerdict, readingAt, readings, sampled, estimateOf, leftBy, leftAt, remaining, less};
 ghost use Rattle.filter.specs.Repeats.{Chains};
-ghost use Rattle.filter.specs.Steps.{Wide, Small, Counted};
+ghost use Rattle.filter.specs.Steps.{Wide, Small, counted};
+use crate::answers::Estimate;
 
 // The first n buckets become themselves minus the others.
 pub(crate) fn subtract(
@@ -43,7 +44,7 @@ pub(crate) fn read_all(
     hashes: &mut [u32],
     counts: &mut [i64],
     salt: u32,
-) -> u64
+) -> Estimate
     requires { ⌜ (now tab ≡ crcTables) × (salt < 64) × Wide 2528 (columns (now ids) (now hashes) (now counts))
         × Small 2528 (2 ^ 34) (columns (now ids) (now hashes) (now counts)) ⌝ }
     ensures { λ r. ⌜ (r ≡ estimateOf 0 (readings salt 32 (view (columns (now (ids .entry)) (now (hashes .entry)) (now (counts .entry))))))
@@ -57,8 +58,8 @@ pub(crate) fn read_all(
     let mut total: u64 = 0;
     let mut n: usize = 32;
     while 0 < n {
-        let s = n - 1;
-        let r = read_one(
+        n -= 1;
+        let Stratum::Lists(listed) = read_one(
             tab,
             ids,
             hashes,
@@ -66,22 +67,31 @@ pub(crate) fn read_all(
             &mut heads,
             &mut links,
             &mut seen,
-            s,
+            n,
             salt,
-        );
-        if !r.complete {
-            return total << (s + 1);
-        }
-        total += r.listed as u64;
-        n -= 1;
+        ) else {
+            return sample(total, n);
+        };
+        total += listed as u64;
     }
-    total
+    Estimate::Known(total)
 }
 
-// How a stratum's reading is counted: whether it is complete, and how many IDs it then lists.
-struct Stratum {
-    complete: bool,
-    listed: usize,
+// The estimate where stratum i is the first that is not complete, and the total is listed above it: of nothing, nothing is known.
+fn sample(total: u64, i: usize) -> Estimate
+    requires { ⌜ (total < 4096) × (i < 32) ⌝ }
+    ensures { λ r. ⌜ r ≡ sampled total i ⌝ }
+{
+    if total == 0 {
+        return Estimate::Unknown;
+    }
+    Estimate::Known(total << (i + 1))
+}
+
+// How a stratum's reading is counted: how many IDs it lists, if it is complete.
+enum Stratum {
+    Lists(usize),
+    Fails,
 }
 
 // Reads stratum s.
@@ -98,7 +108,7 @@ fn read_one(
 ) -> Stratum
     requires { ⌜ (now tab ≡ crcTables) × (salt < 64) × (s < 32) × Wide 2528 (columns (now ids) (now hashes) (now counts))
         × Small (79 * (s + 1)) (2 ^ 34) (columns (now ids) (now hashes) (now counts)) × Chains 0 (now heads) (now links) (now seen) ⌝ }
-    ensures { λ r. ⌜ Counted (readingAt salt s (view (columns (now (ids .entry)) (now (hashes .entry)) (now (counts .entry))))) (r .complete) (r .listed)
+    ensures { λ r. ⌜ (r ≡ counted (readingAt salt s (view (columns (now (ids .entry)) (now (hashes .entry)) (now (counts .entry))))))
         × (columns (now (ids .exit)) (now (hashes .exit)) (now (counts .exit))
         ≡ filled 2528 (leftAt salt s (view (columns (now (ids .entry)) (now (hashes .entry)) (now (counts .entry)))))
         (columns (now (ids .entry)) (now (hashes .entry)) (now (counts .entry))))
@@ -131,7 +141,7 @@ fn read_part(
 ) -> Stratum
     requires { ⌜ (now tab ≡ crcTables) × (salt < 64) × Wide 79 (columns (now ids) (now hashes) (now counts))
         × Small 79 (2 ^ 34) (columns (now ids) (now hashes) (now counts)) × Chains 0 (now heads) (now links) (now seen) ⌝ }
-    ensures { λ r. ⌜ Counted (reading (stratumRule salt) (view (columns (now (ids .entry)) (now (hashes .entry)) (now (counts .entry))))) (r .complete) (r .listed)
+    ensures { λ r. ⌜ (r ≡ counted (reading (stratumRule salt) (view (columns (now (ids .entry)) (now (hashes .entry)) (now (counts .entry))))))
         × (columns (now (ids .exit)) (now (hashes .exit)) (now (counts .exit))
         ≡ filled 79 (leftBy (strataVerdict (reading (stratumRule salt) (view (columns (now (ids .entry)) (now (hashes .entry)) (now (counts .entry))))))
         (reading (stratumRule salt) (view (columns (now (ids .entry)) (now (hashes .entry)) (now (counts .entry))))))
@@ -156,14 +166,10 @@ fn read_part(
     );
     if !p.fine {
         crate::clearing::clear_columns(ids, hashes, counts, 79);
-        return Stratum {
-            complete: false,
-            listed: 0,
-        };
+        return Stratum::Fails;
     }
-    let zero = crate::judging::all_zero(ids, hashes, counts, 79);
-    Stratum {
-        complete: zero,
-        listed: p.ours + p.theirs,
+    if !crate::judging::all_zero(ids, hashes, counts, 79) {
+        return Stratum::Fails;
     }
+    Stratum::Lists(p.ours + p.theirs)
 }

@@ -4,7 +4,7 @@ ghost use Rattle.bucket.specs.Columns.{columns};
 ghost use Rattle.filter.specs.Table.{firstEight};
 ghost use Rattle.filter.specs.Calls.{built};
 ghost use Rattle.filter.specs.Estimator.{estimatorCall, estimated, estimateCall};
-use filter::answers::Estimate;
+use filter::answers::EstimateAnswer;
 
 // The estimator of a table, in the first 2,528 places of three columns; answers the refusal number, 0 for none.
 #[no_mangle]
@@ -29,7 +29,7 @@ pub extern "C" fn tandawire_estimate(
     ids2: &[u64],
     hashes2: &[u32],
     counts2: &[i64],
-) -> Estimate
+) -> EstimateAnswer
     ensures { λ r. ⌜ estimated r (columns (now (ids .exit)) (now (hashes .exit)) (now (counts .exit)))
         ≡ estimateCall 0 (columns (now (ids .entry)) (now (hashes .entry)) (now (counts .entry)))
         (columns (now (ids2 .entry)) (now (hashes2 .entry)) (now (counts2 .entry))) ⌝ }

@@ -6,13 +6,13 @@ use Rattle.filter.proofs.answers.estimate_numbers.Statement.{statement}
 use Rattle.filter.proofs.answers.estimate_numbers.Tie as tie
 
 returns : tie.Need-returns
-returns c = c .estimate-with .ensures ∙ sym (ap estimateAnswer (c .before .before .e .given .1))
+returns c = c .made-numbers .ensures ∙ sym (ap estimateAnswer (c .before .before .e .given .1))
 
 returns-2 : tie.Need-returns-2
-returns-2 c = c .estimate-with2 .ensures ∙ sym (ap estimateAnswer (c .before .enum-told .given .1))
+returns-2 c = c .estimate-with .ensures ∙ sym (ap estimateAnswer (c .before .enum-told .given .1))
 
 returns-3 : tie.Need-returns-3
-returns-3 c = c .estimate-with3 .ensures ∙ sym (ap estimateAnswer (c .before .enum-told2 .given .1))
+returns-3 c = c .estimate-with2 .ensures ∙ sym (ap estimateAnswer (c .before .enum-told2 .given .1))
 
 pub estimate-numbers-spec : {M : Type 1} → statement M
 estimate-numbers-spec =

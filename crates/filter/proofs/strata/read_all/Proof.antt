@@ -2,12 +2,12 @@
 -- reading on from the columns as they are now gives the definition's estimate and what the definition leaves. The measure is n. Assumes nothing.
 use Prim.Native.Nat.{_-_}
 use native.Mathlib.Omega.{arith}
-use mathlib.Core.Path.{refl}
+use mathlib.Core.Path.{refl, sym, _∙_}
 use borrow.Author.Needs.{needs}
 use denote.Ref.{now}
 use Rattle.bucket.specs.Columns.{columns}
 use Rattle.filter.proofs.RepeatLaws.{chains-start}
-use Rattle.filter.proofs.TallyLaws.{Tally, tally-start, tally-next, tally-stop, tally-end}
+use Rattle.filter.proofs.TallyLaws.{lists-few, Tally, tally-start, tally-next, tally-stop, tally-end}
 use Rattle.filter.proofs.strata.read_all.Statement.{statement}
 use Rattle.filter.proofs.strata.read_all.Tie as tie
 
@@ -37,24 +37,33 @@ read-one-requires c κs =
       inv .chains,
     )
 
-shl-result : tie.Need-shl-result Inv-loop μ-loop
-shl-result c = omega (arith, c .before .before .before .before .before .before .before .before .before .before .before .before .before .before .before .loop .inv .few, c .before .before .before .before .before .before .before .before .before .before .before .before .before .before .loop-test .taken)
+sample-requires : tie.Need-sample-requires Inv-loop μ-loop
+sample-requires c κs =
+    let inv = c .before .before .before .before .before .before .before .before .before .before .before .before .before .before .before .loop .inv in
+    let more = c .before .before .before .before .before .before .before .before .before .before .before .before .before .before .loop-test .taken in
+    (omega (arith, inv .bound, more), omega (arith, inv .few, more))
 
 returns : tie.Need-returns Inv-loop μ-loop
 returns c =
-    let read = c .before .before .before .before .before .before .before .read-one in
+    let l = c .before .before .before .before .before .before .before .before .before .before .before .before .before .before .before .before in
+    let read = c .before .before .before .before .before .before .before .before .read-one in
     let left = columns (read .last .1 .0) (read .last .1 .1 .0) (read .last .1 .1 .1 .0) in
-    tally-stop (c .before .before .before .before .before .before .before .before .before .before .before .before .before .before .before .loop .n - 1) left (c .before .before .before .before .before .before .before .before .before .before .before .before .before .before .before .loop .inv) (omega (arith, c .before .before .before .before .before .before .before .before .before .before .before .before .before .before .loop-test .taken)) (read .ensures .0) (read .ensures .1) (c .if1 .taken)
+    tally-stop (l .loop .n - 1) left (l .loop .inv) (omega (arith, c .before .before .before .before .before .before .before .before .before .before .before .before .before .before .before .loop-test .taken)) (read .ensures .1)
+    (sym (c .before .enum-told .given .1) ∙ read .ensures .0) (c .sample .ensures)
 
 add-total : tie.Need-add-total Inv-loop μ-loop
-add-total c = omega (arith, c .before .before .before .before .before .before .before .before .before .before .before .before .before .before .before .loop .inv .bound, c .before .before .before .before .before .before .before .read-one .ensures .0 .few)
+add-total c =
+    let l = c .before .before .before .before .before .before .before .before .before .before .before .before .before .before .before .before in
+    let read = c .before .before .before .before .before .before .before .before .read-one in
+    omega (arith, l .loop .inv .bound, lists-few _ _ (sym (c .before .listed .given .1) ∙ read .ensures .0))
 
 loop-again : tie.Need-loop-again Inv-loop μ-loop
 loop-again c =
-    let read = c .before .before .before .before .before .before .before .read-one in
+    let l = c .before .before .before .before .before .before .before .before .before .before .before .before .before .before .before .before in
+    let read = c .before .before .before .before .before .before .before .before .read-one in
     let left = columns (read .last .1 .0) (read .last .1 .1 .0) (read .last .1 .1 .1 .0) in
-    tally-next (c .before .before .before .before .before .before .before .before .before .before .before .before .before .before .before .loop .n - 1) left (c .before .before .before .before .before .before .before .before .before .before .before .before .before .before .before .loop .inv) (omega (arith, c .before .before .before .before .before .before .before .before .before .before .before .before .before .before .loop-test .taken)) (read .ensures .0) (read .ensures .1)
-    (c .if1 .left) (read .ensures .2)
+    tally-next (l .loop .n - 1) left (l .loop .inv) (omega (arith, c .before .before .before .before .before .before .before .before .before .before .before .before .before .before .before .loop-test .taken)) (read .ensures .1)
+    (sym (c .before .listed .given .1) ∙ read .ensures .0) (read .ensures .2)
 
 returns-2 : tie.Need-returns-2 Inv-loop μ-loop
 returns-2 c = tally-end (c .before .loop .inv) (omega arith)
@@ -63,6 +72,6 @@ pub read-all-spec : {M : Type 1} → statement M
 read-all-spec =
     tie.close
     (tie.spec
-    Inv-loop μ-loop loop-holds (λ c. search needs) read-one-requires (λ c. search needs) shl-result (λ c. search needs) (λ c. search needs)
-    (λ c. search needs) returns add-total (λ c. search needs) (λ c. search needs) loop-again (λ c. search needs) (λ c. search needs)
+    Inv-loop μ-loop loop-holds (λ c. search needs) read-one-requires (λ c. search needs) (λ c. search needs) sample-requires (λ c. search needs)
+    (λ c. search needs) (λ c. search needs) returns add-total (λ c. search needs) loop-again (λ c. search needs) (λ c. search needs)
     (λ c. search needs) returns-2)

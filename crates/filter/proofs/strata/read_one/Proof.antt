@@ -1,5 +1,6 @@
 -- `strata::read_one` meets its contract: a reading goes by the 79 buckets of the stratum alone, and these are what is lent.
 -- Assumes nothing.
+use mathlib.Core.Path.{_∙_}
 use Prim.Native.Nat.{_+_, _*_, _^_}
 use native.Mathlib.Omega.{arith}
 use borrow.Author.Needs.{needs}
@@ -26,7 +27,7 @@ returns c =
     let s = c .before .before .before .before .before .before .before .before .before .before .before .before .before .before in
     let a = s .args in
     let c₀ = columns (a .ids .now) (a .hashes .now) (a .counts .now) in (
-      stratum-counted (a .salt) (a .s) c₀ (s .pre .2) (s .pre .3) (p .result .complete) (p .result .listed) (p .ensures .0),
+      p .ensures .0 ∙ stratum-counted (a .salt) (a .s) c₀ (s .pre .2) (s .pre .3),
       stratum-left (a .salt) (a .s) c₀ (s .pre .2) (s .pre .3) (columns (p .last .1 .0) (p .last .1 .1 .0) (p .last .1 .1 .1 .0)) (p .ensures .1),
       p .ensures .2,
     )
