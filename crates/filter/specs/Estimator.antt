@@ -6,8 +6,8 @@
 --   stratum s f            the buckets of stratum s
 --   withStratum s g f      the buckets f, with g as stratum s
 --   readings salt n f      how the readings of strata n − 1 down to 0 end
---   estimateOf total rs    the estimate: a total listed so far, and the readings of the strata still to come, down to stratum 0
 --   sampled total i        the estimate where stratum i is the first that is not complete, and the total is listed above it
+--   estimateOf total rs    the estimate: a total listed so far, and the readings of the strata still to come, down to stratum 0
 --   remaining salt n f     what is left of f when strata n − 1 and below are read, down to the first that is not complete
 --   estimatorCall ..       the estimator of a table in three lent columns
 --   estimateCall ..        the second estimator subtracted from the first, and read
