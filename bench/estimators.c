@@ -269,7 +269,7 @@ static int check(void)
 
 /* ---- The jobs ---- */
 
-/* The limits are those of the landing that brought estimators, about a quarter above what was
+/* The limits are those of the landing that brought each row, about a quarter above what was
  * measured then. */
 #define ESTIMATE(ours, theirs, limit)                                                          \
     {"estimate_" #ours "_" #theirs, "estimate " #ours " + " #theirs, "tandawire_estimate",     \

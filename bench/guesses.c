@@ -110,7 +110,7 @@ static void report(size_t ours, size_t theirs, uint64_t *estimates, unsigned tri
     qsort(estimates, known, sizeof estimates[0], compare);
     printf("%6zu %6zu %8.1f ", ours, theirs, 100.0 * exact / known);
     for (int p = 0; p < PERCENTILES; p++)
-        if (d > 0)
+        if (d > 0 && known > 0)
             printf(" %6.2f", (double)percentile(estimates, known, percentiles[p]) / (double)d);
         else
             printf(" %6s", "-");

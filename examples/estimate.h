@@ -73,8 +73,8 @@ static inline int estimate_read(tandawire_estimator *e, const uint8_t *in, size_
 
 /* Estimates the difference between our table and that of the far end, by the estimator it sent, and finds
  * a size for a filter, so many times the difference. Where the difference is unknown, both tables together
- * stand for it, twice: tables with little in common then read at the first try. Answers null, or why there
- * is no estimate. */
+ * stand for it, twice as a rule: tables with little in common then mostly read at the first try. Answers
+ * null, or why there is no estimate. */
 static inline const char *estimate_difference(const uint8_t *table, size_t table_length, const uint8_t *in,
                                               size_t length, uint32_t times, tandawire_estimation *e,
                                               uint32_t *size)
@@ -88,8 +88,8 @@ static inline const char *estimate_difference(const uint8_t *table, size_t table
     *e = tandawire_estimator_compare(&ours, &theirs);
     if (e->refusal)
         return tandawire_refusal_text(e->refusal);
-    *size = e->known ? tandawire_size_for(*e, times) :
-            tandawire_size_for(tandawire_known(table_length / TANDAWIRE_HASH_BYTES + tandawire_estimator_elements(&theirs)), 2);
+    uint64_t both = table_length / TANDAWIRE_HASH_BYTES + tandawire_estimator_elements(&theirs);
+    *size = e->known ? tandawire_size_for(*e, times) : tandawire_size_for(tandawire_known(both), times > 3 ? times - 1 : 2);
     return NULL;
 }
 

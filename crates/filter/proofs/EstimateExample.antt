@@ -1,35 +1,41 @@
 -- The premises of the exact estimate (estimates-built of EstimateExact) hold together: of three IDs that differ, two of stratum 0 that share a
--- bucket, one of stratum 3, by running the tests over every stratum; first as lists of IDs, then as tables and columns. Assumes nothing.
-use mathlib.Core.Path.{_≡_, refl, ap, _∙_, subst}
-use mathlib.Core.Bool.{Bool, true}
+-- bucket, one of stratum 3, by running the tests over every stratum; first as lists of IDs, then as tables and columns. And the estimate of
+-- columns may be unknown. Assumes nothing.
+use mathlib.Core.Path.{_≡_, refl, sym, ap, _∙_, subst}
+use mathlib.Core.Logic.{_≢_}
+use mathlib.Core.Bool.{Bool, true, not}
 use mathlib.Core.List.{List, [], _∷_, _++_, List·Memᴰ}
 use mathlib.Core.List.List·Memᴰ.{List·Memᴰ·head as head, List·Memᴰ·tail as tail}
 use Prim.Native.Nat.{ℕ, _^_, _<_}
 use native.Mathlib.Omega.{arith}
+use borrow.Author.Tests.{not-true}
 use lib.Count.{trailingZeros}
 use lib.IntN.{pos}
 use lib.ListN.{length, replicate}
-use Rattle.bucket.specs.Bucket.{Bucket, _⊕_, 𝟎, isZero}
-use Rattle.bucket.specs.Columns.{Columns, columns}
+use Rattle.bucket.specs.Bucket.{Bucket, _⊕_, neg, 𝟎, isZero}
+use Rattle.bucket.specs.Columns.{Columns, columns, view}
 use Rattle.bucket.specs.Counts.{stratumOf}
 use Rattle.bucket.specs.Crc.{crcOf, crc32, feed, steps, tabulated}
 use Rattle.bucket.specs.Digits.{joined, groups}
 use Rattle.bucket.specs.Lists.{elem, Distinct}
 use Rattle.bucket.specs.Places.{draw, candidates, firsts, placesBy}
 use Rattle.bucket.specs.Salt.{rot, salted}
-use Rattle.filter.specs.declared.answers.Verdict.the-variants.{Complete}
-use Rattle.filter.specs.declared.answers.Estimate.the-variants.{Known}
+use Rattle.filter.specs.declared.answers.Verdict.the-variants.{Complete, Stuck}
+use Rattle.filter.specs.declared.answers.Refusal.the-variants.{None}
+use Rattle.filter.specs.declared.answers.Estimate.the-variants.{Known, Unknown}
 use Rattle.filter.specs.Answers.{madeAnswer}
 use Rattle.filter.specs.Lists.{rising, distinct, select, minus}
 use Rattle.filter.specs.Table.{hashAt, hashesOf, firstEight, idsOf, isTable}
 use Rattle.filter.specs.Filter.{Item, Rule, touches, cell, put, sumAt, load, filterOf}
-use Rattle.filter.specs.Peeling.{isPure}
+use Rattle.filter.specs.Peeling.{ended, allZero, isPure}
 use Rattle.filter.specs.Stopping.{differing, Clear, StoppingSet}
-use Rattle.filter.specs.Estimator.{estimatorRule, inStratum, stratumRule, less, strataVerdict, readingAt, readings, estimateOf, estimatorCall, estimateCall}
-use Rattle.filter.specs.Calls.{hasRoom}
+use Rattle.filter.specs.Estimator.{estimatorRule, inStratum, stratumRule, stratum, less, strataVerdict, readingAt, readings, estimateOf, estimatorCall, estimateRefusal, estimateCall}
+use Rattle.filter.specs.Calls.{allCounts, hasRoom}
 use Rattle.filter.proofs.ClearLaws.{parts, allBelow, all-below, clearAt, clearAll, clear-of, closedAt, openAll, no-stopping-of, known, Right, noted, noted-same}
 use Rattle.filter.proofs.StratumLaws.{total-cong, strata-differing, estimate-listed, stratum-listed, stratum-whole}
 use Rattle.filter.proofs.IdLaws.{first-eight-below}
+use Rattle.filter.proofs.PeelLaws.{next-none, inv-start, inv-nothing}
+use Rattle.filter.proofs.EstimateKnown.{unknown-exactly}
 use Rattle.filter.proofs.EstimateExact.{estimates-built}
 
 -- ---- real places: 79 buckets at salt 0, where the IDs 1 and 17 share bucket 47
@@ -180,3 +186,34 @@ tables-three =
     (λ i h. rw (our-ids, their-ids) (strata-clear i h))
     (λ i h. rw (our-ids, their-ids) (strata-open i h))
     ∙ ap (λ (n : ℕ). madeAnswer (Known n)) (rw (our-ids, their-ids) three-differ)
+
+-- ---- a difference that is unknown: the estimators of zeros, but for a COUNT of 2 in the first place of stratum 31
+
+unfoldable pub oneStuck : Columns
+oneStuck = columns (replicate 2528 0) (replicate 2528 0) (replicate 2449 (pos 0) ++ (pos 2 ∷ replicate 78 (pos 0)))
+
+abbrev stuckAt : ℕ → Bucket
+stuckAt = stratum 31 (less (view oneStuck) (view blank))
+
+stuck-read : readingAt 0 31 (less (view oneStuck) (view blank)) ≡ ended true [] stuckAt
+stuck-read =
+    inv-nothing R stuckAt 79 [] stuckAt (inv-start R stuckAt)
+    (next-none R [] stuckAt (λ j h. not-true (isPure R j (stuckAt j)) (all-below (λ i. not (isPure R i (stuckAt i))) 79 j test h)))
+  where
+    R : Rule
+    R = stratumRule 0
+
+    test : allBelow (λ i. not (isPure (stratumRule 0) i (stuckAt i))) 79 ≡ true
+    test = unfold allBelow isPure stratum oneStuck blank view _⊕_ neg in refl
+
+pub columns-unknown : estimateCall 0 oneStuck blank .answer ≡ madeAnswer Unknown
+columns-unknown = unknown-exactly 0 oneStuck blank .1 (granted, (31, omega arith, stuck, λ j h k. absurd (omega (arith, h, k))))
+  where
+    granted : estimateRefusal oneStuck blank ≡ None
+    granted = unfold estimateRefusal allCounts hasRoom oneStuck blank in refl
+
+    verdict : strataVerdict (ended true [] stuckAt) ≡ Stuck
+    verdict = unfold allZero isZero stratum oneStuck blank view _⊕_ neg in refl
+
+    stuck : strataVerdict (readingAt 0 31 (less (view oneStuck) (view blank))) ≢ Complete
+    stuck e = let z = sym (ap strataVerdict stuck-read ∙ verdict) ∙ e in let n : _≡_ {A = ℕ} 0 1 = cc in omega arith
