@@ -194,8 +194,8 @@ uint32_t tandawire_estimator_build(const uint8_t *table, size_t table_length,
                                    uint32_t *hashes, size_t hashes_length,
                                    int64_t *counts, size_t counts_length);
 
-/* What an estimate answers: the refusal; 1 where the difference is known, 0 where it is unknown; and the
- * estimate of it, which means something only where it is known, and is 0 otherwise. */
+/* What an estimate answers: the refusal; 1 where the difference is known, 0 where it is unknown or the
+ * call is refused; and the estimate, which means something only where it is known, and is 0 otherwise. */
 typedef struct tandawire_estimation {
     uint32_t refusal;
     uint32_t known;

@@ -12,7 +12,7 @@ static uint8_t table[ELEMENTS * HASH], far_table[ELEMENTS * HASH], bytes[ESTIMAT
 static size_t spoil(size_t length)
 {
     estimate_put(bytes + length, 2, TANDAWIRE_ESTIMATOR_PLACES - 1);
-    estimate_put(bytes + length + 2, 12, 0);
+    memset(bytes + length + 2, 0, 12);
     estimate_put(bytes + length + 14, 2, 6);
     return length + ESTIMATE_BUCKET;
 }
