@@ -3,7 +3,7 @@
 use mathlib.Core.Path.{_≡_, refl, sym, ap, ap₂, _∙_}
 use mathlib.Core.Logic.{_≢_}
 use mathlib.Core.Bool.{Bool, true, false, false≢true}
-use mathlib.Core.List.{List, [], _∷_}
+use mathlib.Core.List.{List, []}
 use Prim.Native.Nat.{ℕ, zero, suc, _+_, _*_, _^_, _<_}
 use native.Mathlib.Nat.{mul-pos}
 use native.Mathlib.Omega.{arith}
@@ -18,6 +18,7 @@ use Rattle.filter.specs.declared.answers.Estimate.the-variants.{Known, U
 use Rattle.filter.specs.Filter.{Item, sumAt}
 use Rattle.filter.specs.Peeling.{Outcome, ended, allZero, verdictBy, isComplete, isPure}
 use Rattle.filter.specs.Estimator.{stratumRule, stratum, strataVerdict, readingAt, readings, sampled, estimateOf}
+use Rattle.filter.proofs.ListLaws.{length-nil}
 use Rattle.filter.proofs.PeelLaws.{next-none, inv-start, inv-nothing}
 use Rattle.filter.proofs.SoundLaws.{all-zero, verdict-complete, reading-sum}
 use Rattle.filter.proofs.ExactLaws.{all-zero-of}
@@ -45,10 +46,6 @@ complete-is Complete e = refl
 complete-is Stuck e = cc
 complete-is False e = cc
 
-empty : (l : List Item) → length l ≡ 0 → l ≡ []
-empty [] e = refl
-empty (x ∷ l) e = absurd (omega (arith, e))
-
 module _ (salt : ℕ) (f : ℕ → Bucket) where
   -- every stratum below n is complete with nothing listed
   abbrev pub AllEmpty : ℕ → Type 0
@@ -68,7 +65,7 @@ module _ (salt : ℕ) (f : ℕ → Bucket) where
       let k = below (sym (estimate-step salt f n total true t) ∙ e) in (
         omega (arith, k .0),
         λ i h. each-more (λ m. (strataVerdict (readingAt salt m f) ≡ Complete) × (readingAt salt m f .listed ≡ [])) n (k .1)
-            (complete-is (strataVerdict (readingAt salt n f)) t, empty (readingAt salt n f .listed) (omega (arith, k .0))) i (omega (arith, h)),
+            (complete-is (strataVerdict (readingAt salt n f)) t, length-nil (readingAt salt n f .listed) (omega (arith, k .0))) i (omega (arith, h)),
       )
   zero-step n total false t below e = absurd (sampled-positive total n (sym (estimate-step salt f n total false t) ∙ e))
 
@@ -85,7 +82,7 @@ module _ (salt : ℕ) (f : ℕ → Bucket) where
       let k = below (sym (estimate-step salt f n total true t) ∙ e) in
       let above : (j : ℕ) → k .1 .0 < j → j < suc n → readingAt salt j f .listed ≡ [] = λ j h l.
       each-more (λ m. k .1 .0 < m → readingAt salt m f .listed ≡ []) n (λ m u v. k .1 .3 m v u)
-      (λ v. empty (readingAt salt n f .listed) (omega (arith, k .0))) j (omega (arith, l)) h in
+      (λ v. length-nil (readingAt salt n f .listed) (omega (arith, k .0))) j (omega (arith, l)) h in
       (omega (arith, k .0), (k .1 .0, omega (arith, k .1 .1), k .1 .2, above))
   unknown-step n total false t below e = (
     sampled-unknown total n (sym (estimate-step salt f n total false t) ∙ e),

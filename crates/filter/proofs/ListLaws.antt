@@ -19,6 +19,10 @@ use Rattle.filter.proofs.SelectLaws.{elem-mem, mem-elem, select-all}
 use Rattle.filter.specs.Sets.{_∪_, isNil, all, within, once, news, count, every, implies, same}
 use Rattle.filter.proofs.SetLaws.{_∈_, _⊆_, clash, and-l, and-r, not-in-nil, not-in, elem-cons, in-cons, in-append-l, in-append-r, ∪-asc, in-∪-l, ∪-nil, asc-distinct, length-∪, or-swap}
 
+pub length-nil : {X : Type 0} (l : List X) → length l ≡ 0 → l ≡ []
+length-nil [] e = refl
+length-nil (x ∷ l) e = absurd (omega (arith, e))
+
 -- ---- all, within, none
 
 pub all-of : (p : ℕ → Bool) (l : List ℕ) → ((x : ℕ) → x ∈ l → p x ≡ true) → all p l ≡ true

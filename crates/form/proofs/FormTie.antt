@@ -1,7 +1,7 @@
 -- The code's test of the ledger's form, by counting, is the definition's. Assumes nothing.
 use mathlib.Core.Path.{_≡_, refl, sym, ap, ap₂, subst, _∙_}
 use mathlib.Core.Bool.{Bool, true, false, _&&_}
-use mathlib.Core.List.{List, [], _∷_, _++_}
+use mathlib.Core.List.{List, [], _++_}
 use Prim.Native.Nat.{ℕ, _+_, _-_, _*_, _≤_}
 use native.Mathlib.Omega.{arith}
 use lib.Dec.{eqb, ltb, leb}
@@ -22,17 +22,13 @@ use Rattle.ledger.specs.Calls.{Given, memoryOf, tableOf, sessionOf, countsNothi
 use Rattle.form.specs.Tallies.{tableMark, recordMark, metCount, isZero, common}
 use Rattle.form.specs.Tallies.{idle, formBy, goodTally}
 use Rattle.filter.proofs.SetLaws.{and-l, and-r, asc-of, of-asc}
-use Rattle.filter.proofs.ListLaws.{within-of, implies-of, of-implies, same-of, of-same}
+use Rattle.filter.proofs.ListLaws.{length-nil, within-of, implies-of, of-implies, same-of, of-same}
 use Rattle.ledger.proofs.BookLaws.{Table, Books, table-of, books-of, of-books}
 use Rattle.ledger.proofs.MemoryLaws.{encode-decode}
 use Rattle.form.proofs.CountLaws.{common-all, apart-test}
 use Rattle.ledger.proofs.GivenLaws.{books-apart, front-table, front-readable, front-quiet, Fits, there-fits, known-count, inquired-long, known-table, flags-all}
 use Rattle.form.proofs.MarkTests.{table-below, record-below, zero-asked, zero-offered, zero-served, zero-marked, all-tested, marked-padded, all-padded, marked-count, marks-pass, flags-pass}
 use Rattle.form.proofs.TestedLaws.{ids-length, books-count, came-all, books-tested, nothing-tested, tested-nothing}
-
-length-nil : (l : List ℕ) → length l ≡ 0 → l ≡ []
-length-nil [] e = refl
-length-nil (a ∷ l) e = absurd (omega arith)
 
 -- ---- the two tests, of a memory
 
