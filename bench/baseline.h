@@ -129,6 +129,8 @@ struct reading {
     int64_t *counts;
     uint32_t size;
     uint64_t top, pure[MOST / 64];
+    /* Buckets that looks from bucket 0 go over. */
+    size_t looked;
     uint16_t at[MOST][3];
     /* The salted IDs listed, chained by their first place. */
     uint64_t listed[MOST];
@@ -182,6 +184,7 @@ static inline void begin_reading(struct reading *r, uint64_t *ids, uint32_t *has
     r->hashes = hashes;
     r->counts = counts;
     r->size = size;
+    r->looked = 0;
     memset(r->first, 0xFF, size * sizeof r->first[0]);
     for (uint32_t b = 0; b < size; b++)
         if (looks_pure(r, b)) {
@@ -195,10 +198,13 @@ enum peel { PEELED, NONE_PURE, PEELED_FALSELY };
 /* Peels the lowest bucket that looks pure, after so many peels. */
 static inline enum peel peel(struct reading *r, size_t peels, uint64_t *id, int64_t *count)
 {
-    if (r->top == 0)
+    if (r->top == 0) {
+        r->looked += r->size;
         return NONE_PURE;
+    }
     uint32_t w = (uint32_t)__builtin_ctzll(r->top);
     uint32_t b = 64 * w + (uint32_t)__builtin_ctzll(r->pure[w]), crc = r->hashes[b];
+    r->looked += b + 1;
     uint16_t at[3] = {r->at[b][0], r->at[b][1], r->at[b][2]};
     *id = r->ids[b];
     *count = r->counts[b];
@@ -276,12 +282,12 @@ tandawire_reading c_read(const uint8_t *table, size_t length, uint64_t *ids, siz
     struct lists l = {ours, theirs, 0, 0};
     size_t number = length / HASH;
     if (!is_table(table, length) || counts_are_wide(counts, counts_room, size))
-        return (tandawire_reading){1, 0, 0, 0};
+        return (tandawire_reading){1, 0, 0, 0, 0};
     if (size < LEAST || size > MOST || salt >= SALTS)
-        return (tandawire_reading){3, 0, 0, 0};
+        return (tandawire_reading){3, 0, 0, 0, 0};
     if (ids_room < size || hashes_room < size || counts_room < size || ours_room < size ||
         theirs_room < size)
-        return (tandawire_reading){2, 0, 0, 0};
+        return (tandawire_reading){2, 0, 0, 0, 0};
 
     prepare_reading(&r);
     for (uint32_t b = 0; b < size; b++)
@@ -293,11 +299,11 @@ tandawire_reading c_read(const uint8_t *table, size_t length, uint64_t *ids, siz
         clear(ids, hashes, counts, size);
         memset(ours, 0, size * sizeof *ours);
         memset(theirs, 0, size * sizeof *theirs);
-        return (tandawire_reading){6, 0, 0, 0};
+        return (tandawire_reading){6, 0, 0, 0, r.looked};
     }
     memset(ours + l.ours_number, 0, (size - l.ours_number) * sizeof *ours);
     memset(theirs + l.theirs_number, 0, (size - l.theirs_number) * sizeof *theirs);
-    return (tandawire_reading){0, (uint32_t)complete, l.ours_number, l.theirs_number};
+    return (tandawire_reading){0, (uint32_t)complete, l.ours_number, l.theirs_number, r.looked};
 }
 
 #endif

@@ -57,6 +57,14 @@ static tandawire_reading read_by(int side, struct lent *l, const size_t room[5],
 enum { COMPLETE = 0, FALSE = 6, STUCK = 7, ENDS = 8 };
 static unsigned met[ENDS];
 
+/* Whether both sides answered the same and left the same. */
+static int are_same(const tandawire_reading a[2])
+{
+    return memcmp(&left[0], &left[1], sizeof left[0]) == 0 && a[0].refusal == a[1].refusal &&
+           a[0].complete == a[1].complete && a[0].ours == a[1].ours &&
+           a[0].theirs == a[1].theirs && a[0].looked == a[1].looked;
+}
+
 /* The end that both sides come to, or -1 if they differ in the answer or in what they leave. */
 static int end_of_reading(const size_t room[5], uint32_t size, uint32_t salt)
 {
@@ -65,8 +73,7 @@ static int end_of_reading(const size_t room[5], uint32_t size, uint32_t salt)
         left[i] = given;
         a[i] = read_by(i, &left[i], room, size, salt);
     }
-    if (memcmp(&left[0], &left[1], sizeof left[0]) != 0 || a[0].refusal != a[1].refusal ||
-        a[0].complete != a[1].complete || a[0].ours != a[1].ours || a[0].theirs != a[1].theirs)
+    if (!are_same(a))
         return -1;
     int end = a[0].refusal != 0 ? (int)a[0].refusal : a[0].complete ? COMPLETE : STUCK;
     if (end < 0 || end >= ENDS)
@@ -298,8 +305,7 @@ static void prepare(const struct job *job, uint32_t salt)
  * a difference of one side must be. */
 static int is_done(const struct job *job, const tandawire_reading r[2])
 {
-    if (memcmp(&left[0], &left[1], sizeof left[0]) != 0 || r[0].refusal != r[1].refusal ||
-        r[0].complete != r[1].complete || r[0].ours != r[1].ours || r[0].theirs != r[1].theirs)
+    if (!are_same(r))
         return 0;
     if (r[0].complete)
         return r[0].refusal == 0 && r[0].ours == job->ours && r[0].theirs == job->theirs;
@@ -311,7 +317,7 @@ static double time_of(const struct job *job, int side, uint32_t salt)
     static tandawire_reading r[2];
     struct timespec a, b;
     left[side] = given;
-    r[side] = (tandawire_reading){0, 1, job->ours, job->theirs};
+    r[side] = (tandawire_reading){0, 1, job->ours, job->theirs, 0};
     clock_gettime(CLOCK_MONOTONIC, &a);
     if (reads(job))
         r[side] = read_by(side, &left[side], whole, job->size, salt);

@@ -51,8 +51,8 @@ extern "C" {
 
 /* The version of this header, as text and as major * 10,000 + minor * 100 + patch; and that of the
  * archive that is linked. A program can hold one to the other. */
-#define TANDAWIRE_VERSION "0.4.0"
-#define TANDAWIRE_VERSION_NUMBER 400
+#define TANDAWIRE_VERSION "0.5.0"
+#define TANDAWIRE_VERSION_NUMBER 500
 uint32_t tandawire_version(void);
 
 #define TANDAWIRE_HASH_BYTES 64
@@ -155,12 +155,19 @@ uint32_t tandawire_build(const uint8_t *table, size_t table_length,
                          uint32_t size, uint32_t salt);
 
 /* What a reading answers: the refusal; whether it is complete (1) or stuck (0); how many IDs are listed
- * as ours and as theirs. The last three are 0 where it is refused. */
+ * as ours and as theirs; and how many buckets were looked at. Refused with 6, complete, ours and theirs
+ * are 0; refused with 1, 2 or 3, so is looked.
+ *
+ * A reading looks from bucket 0 for the lowest that seems to hold one element, takes it out, and looks
+ * from bucket 0 again. Each look counts the position of the bucket that it finds plus one, or the size
+ * where it finds none; the last look counts too. In all that is at most size * (size + 1), whatever the
+ * far end sent. The library does not look at each of them again: it finds the same number without. */
 typedef struct tandawire_reading {
     uint32_t refusal;
     uint32_t complete;
     size_t ours;
     size_t theirs;
+    size_t looked;
 } tandawire_reading;
 
 /* Reads the difference of our table and a received filter, made by the far end at the same size and

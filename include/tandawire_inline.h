@@ -339,7 +339,7 @@ static inline int tandawire_filter_is_whole(const tandawire_filter *f)
 static inline tandawire_reading tandawire_filter_read(tandawire_filter *f, tandawire_lists *lists,
                                                       const uint8_t *table, size_t table_length)
 {
-    tandawire_reading r = {TANDAWIRE_REFUSED_MALFORMED, 0, 0, 0};
+    tandawire_reading r = {TANDAWIRE_REFUSED_MALFORMED, 0, 0, 0, 0};
     if (!tandawire_filter_is_whole(f))
         return r;
     r = tandawire_read(table, table_length, f->ids, TANDAWIRE_MOST_SIZE, f->hashes, TANDAWIRE_MOST_SIZE,

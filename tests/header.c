@@ -47,6 +47,7 @@ static void expect_readings(void)
     expect("read, complete", r.complete, 1);
     expect("read, ours", r.ours, 2);
     expect("read, theirs", r.theirs, 5);
+    expect("read, looked", r.looked, 439);
     expect_listed("read, the list ours", ours, 101, 0, 2);
     expect_listed("read, the list theirs", theirs, 101, 4, 5);
 
@@ -60,9 +61,15 @@ static void expect_readings(void)
     r = read_filter(hash_bytes, ROOM, 101, 0);
     expect("read, refusal of a false one", r.refusal, TANDAWIRE_REFUSED_FALSE);
     expect("read, nothing listed then", r.ours + r.theirs + r.complete, 0);
+    expect("read, looked then", r.looked, 184);
     counts[0] = -1;
-    expect("read, a count below 0", read_filter(0, ROOM, 101, 0).refusal, TANDAWIRE_REFUSED_FORM);
+    r = read_filter(0, ROOM, 101, 0);
+    expect("read, a count below 0", r.refusal, TANDAWIRE_REFUSED_FORM);
+    expect("read, nothing looked at then", r.looked, 0);
     counts[0] = 0;
+    r = read_filter(0, ROOM, 101, 0);
+    expect("read, nothing differs", r.complete, 1);
+    expect("read, one look over all", r.looked, 101);
     expect("read, short lists", tandawire_read(table, 0, ids, 101, hashes, 101, counts, 101, ours, 100, theirs, 101, 101, 0).refusal, TANDAWIRE_REFUSED_ROOM);
 }
 

@@ -30,7 +30,7 @@ static void expect_texts(void)
     expect_text("kind 566", tandawire_kind_text(TANDAWIRE_ELEMENT), "ELEMENT");
     expect_text("kind 0", tandawire_kind_text(TANDAWIRE_MALFORMED), "malformed");
     expect_text("kind 564", tandawire_kind_text(564), "unknown kind");
-    expect_text("version", TANDAWIRE_VERSION, "0.4.0");
+    expect_text("version", TANDAWIRE_VERSION, "0.5.0");
     expect("version, of header and archive", tandawire_version(), TANDAWIRE_VERSION_NUMBER);
 }
 
@@ -127,6 +127,7 @@ static void expect_filters(void)
     expect("take, the first", tandawire_filter_take(&theirs, buffer, second), 0);
     expect("take, half", (size_t)tandawire_filter_is_whole(&theirs), 0);
     expect("half, read", tandawire_filter_read(&theirs, &lists, table, length).refusal, TANDAWIRE_REFUSED_MALFORMED);
+    expect("half, looked", tandawire_filter_read(&theirs, &lists, table, length).looked, 0);
     buffer[second + 13] ^= 1; /* another salt */
     expect("take, another salt", tandawire_filter_take(&theirs, buffer + second, w.next - second), TANDAWIRE_REFUSED_MALFORMED);
     buffer[second + 13] ^= 1;
@@ -140,6 +141,7 @@ static void expect_filters(void)
     expect("read, complete", r.complete, 1);
     expect("read, ours", r.ours, 10);
     expect("read, theirs", r.theirs, 10);
+    expect("read, looked", r.looked, 26754);
     expect_listed("read, the list ours", lists.ours, 4001, 1, 10);
     expect_listed("read, the list theirs", lists.theirs, 4001, 21, 10);
     expect("used up", (size_t)tandawire_filter_is_whole(&theirs), 0);

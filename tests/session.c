@@ -13,10 +13,11 @@ static uint8_t anna_table[ALL * HASH], bert_table[ALL * HASH], line[1 << 20], he
 
 static void expect_sizes(void)
 {
-    expect("sizeof reading", sizeof(tandawire_reading), 24);
+    expect("sizeof reading", sizeof(tandawire_reading), 32);
     expect("reading, complete", offsetof(tandawire_reading, complete), 4);
     expect("reading, ours", offsetof(tandawire_reading, ours), 8);
     expect("reading, theirs", offsetof(tandawire_reading, theirs), 16);
+    expect("reading, looked", offsetof(tandawire_reading, looked), 24);
     expect("sizeof estimation", sizeof(tandawire_estimation), 16);
     expect("estimation, known", offsetof(tandawire_estimation, known), 4);
     expect("estimation, estimate", offsetof(tandawire_estimation, estimate), 8);
@@ -70,6 +71,7 @@ static void expect_answers(void)
     expect("reading, complete", r.complete, 1);
     expect("reading, ours", r.ours, 2);
     expect("reading, theirs", r.theirs, 4);
+    expect("reading, looked", r.looked, 10063);
 }
 
 /* Numbers that are of no session come back as they were given, field by field. */

@@ -1,5 +1,5 @@
-//! The paper's tables, filters and readings (document 01) in plain Rust, written from the paper
-//! alone: looks from bucket 0 each time, and searches its lists from end to end.
+//! The papers' tables, filters and readings (document 01; 02, Req 11) in plain Rust, written from the
+//! papers alone: looks from bucket 0 each time, and searches its lists from end to end.
 
 use crate::model::{self, Columns};
 use crate::quick;
@@ -133,8 +133,31 @@ impl Filter {
             && quick::places(self.ids[at], self.size()).contains(&i)
     }
 
+    /// One look from bucket 0: the first bucket that looks pure, if any does, and how many buckets
+    /// were looked at for it.
+    fn look(&self) -> (Option<u32>, usize) {
+        let mut looked = 0;
+        for i in 0..self.size() {
+            looked += 1;
+            if self.looks_pure(i) {
+                return (Some(i), looked);
+            }
+        }
+        (None, looked)
+    }
+
     fn is_zero(&self) -> bool {
         *self == Filter::empty(self.size())
+    }
+
+    /// What stands in the first places of the columns.
+    fn standing_in(columns: &Columns, size: u32) -> Filter {
+        let size = size as usize;
+        Filter {
+            ids: columns.ids[..size].to_vec(),
+            hashes: columns.hashes[..size].to_vec(),
+            counts: columns.counts[..size].to_vec(),
+        }
     }
 
     /// Lays this in the first places of the columns.
@@ -182,6 +205,7 @@ pub struct Reading {
     pub complete: u32,
     pub ours: usize,
     pub theirs: usize,
+    pub looked: usize,
 }
 
 /// How a reading ended; the last three are false.
@@ -194,16 +218,40 @@ pub enum End {
     Contradicted,
 }
 
+/// What peeling comes to.
+#[derive(Clone, Debug)]
+pub struct Peeled {
+    pub end: End,
+    /// Unsalted IDs in peel order, each with whether it is ours.
+    pub listed: Vec<(u64, bool)>,
+    /// How many buckets each look took.
+    pub looks: Vec<usize>,
+}
+
+impl Peeled {
+    /// The number of buckets looked at.
+    pub fn looked(&self) -> usize {
+        self.looks.iter().sum()
+    }
+}
+
 /// Peels the difference and lists unsalted IDs, each with whether it is ours.
 pub fn peel(difference: &mut Filter, table: &[u8], salt: u32) -> (End, Vec<(u64, bool)>) {
+    let peeled = peel_and_judge(difference, table, salt);
+    (peeled.end, peeled.listed)
+}
+
+/// Likewise, and tells the looks. The table is judged once the columns are zero, so after the last
+/// look.
+pub fn peel_and_judge(difference: &mut Filter, table: &[u8], salt: u32) -> Peeled {
     let most = difference.size() as usize;
-    let (end, listed) = peel_by(difference, salt, most, false);
+    let mut peeled = peel_and_look(difference, salt, most, false);
     let held = ids(table);
     let wrong = |&(id, ours): &(u64, bool)| held.contains(&id) != ours;
-    match end {
-        End::Complete if listed.iter().any(wrong) => (End::Contradicted, listed),
-        _ => (end, listed),
+    if peeled.end == End::Complete && peeled.listed.iter().any(wrong) {
+        peeled.end = End::Contradicted;
     }
+    peeled
 }
 
 /// Likewise without the table's test and with other limits: so many peels, and repeats may pass.
@@ -213,25 +261,36 @@ pub fn peel_by(
     most: usize,
     repeats: bool,
 ) -> (End, Vec<(u64, bool)>) {
-    let size = difference.size();
-    let mut listed: Vec<(u64, bool)> = Vec::new();
-    while let Some(i) = (0..size).find(|&i| difference.looks_pure(i)) {
+    let peeled = peel_and_look(difference, salt, most, repeats);
+    (peeled.end, peeled.listed)
+}
+
+/// Each look counts, be it one that finds a bucket to peel, one that finds what makes the reading
+/// false, or the last one, which finds none.
+fn peel_and_look(difference: &mut Filter, salt: u32, most: usize, repeats: bool) -> Peeled {
+    let (mut listed, mut looks) = (Vec::<(u64, bool)>::new(), Vec::new());
+    let end = loop {
+        let (found, looked) = difference.look();
+        looks.push(looked);
+        let Some(i) = found else {
+            break match difference.is_zero() {
+                true => End::Complete,
+                false => End::Stuck,
+            };
+        };
         let key = difference.ids[i as usize];
         let count = difference.counts[i as usize];
         let id = model::unsalt(key, salt);
         if !repeats && listed.iter().any(|&(other, _)| other == id) {
-            return (End::Repeated, listed);
+            break End::Repeated;
         }
         if listed.len() == most {
-            return (End::TooMany, listed);
+            break End::TooMany;
         }
         listed.push((id, count == 1));
         difference.put(key, -count);
-    }
-    match difference.is_zero() {
-        true => (End::Complete, listed),
-        false => (End::Stuck, listed),
-    }
+    };
+    Peeled { end, listed, looks }
 }
 
 /// Writes a list in its first places, zeros behind it up to size.
@@ -252,42 +311,68 @@ pub fn read(
     size: u32,
     salt: u32,
 ) -> (Reading, Option<End>) {
-    let refused = |refusal| Reading {
+    let (reading, peeled) = read_and_tell(table, columns, [ours, theirs], size, salt);
+    (reading, peeled.map(|peeled| peeled.end))
+}
+
+/// The refusal from 1 to 3 that stops a reading.
+fn refusal(
+    table: &[u8],
+    columns: &Columns,
+    lists: &[&mut [u64]; 2],
+    size: u32,
+    salt: u32,
+) -> Option<u32> {
+    let mut judged = columns.counts.iter().take(size as usize);
+    if !is_table(table) || judged.any(|count| !(0..=MOST_COUNT).contains(count)) {
+        return Some(1);
+    }
+    if !range_is_good(size, salt) {
+        return Some(3);
+    }
+    let a_list_is_shorter = lists.iter().any(|list| is_shorter(list, size));
+    match a_column_is_shorter(columns, size) || a_list_is_shorter {
+        true => Some(2),
+        false => None,
+    }
+}
+
+/// Likewise with the lists ours and theirs side by side, and tells what peeling came to.
+pub fn read_and_tell(
+    table: &[u8],
+    columns: Columns,
+    mut lists: [&mut [u64]; 2],
+    size: u32,
+    salt: u32,
+) -> (Reading, Option<Peeled>) {
+    let refused = |refusal, looked| Reading {
         refusal,
         complete: 0,
         ours: 0,
         theirs: 0,
+        looked,
     };
-    let mut judged = columns.counts.iter().take(size as usize);
-    if !is_table(table) || judged.any(|count| !(0..=MOST_COUNT).contains(count)) {
-        return (refused(1), None);
+    if let Some(refusal) = refusal(table, &columns, &lists, size, salt) {
+        return (refused(refusal, 0), None);
     }
-    if !range_is_good(size, salt) {
-        return (refused(3), None);
-    }
-    if a_column_is_shorter(&columns, size) || is_shorter(ours, size) || is_shorter(theirs, size) {
-        return (refused(2), None);
-    }
-    let all = size as usize;
-    let received = Filter {
-        ids: columns.ids[..all].to_vec(),
-        hashes: columns.hashes[..all].to_vec(),
-        counts: columns.counts[..all].to_vec(),
-    };
+    let received = Filter::standing_in(&columns, size);
     let mut difference = Filter::of(&ids(table), size, salt).less(&received);
-    let (end, listed) = peel(&mut difference, table, salt);
-    if end != End::Complete && end != End::Stuck {
+    let peeled = peel_and_judge(&mut difference, table, salt);
+    if peeled.end != End::Complete && peeled.end != End::Stuck {
         Filter::empty(size).lay(columns);
-        ours[..all].fill(0);
-        theirs[..all].fill(0);
-        return (refused(6), Some(end));
+        lists
+            .iter_mut()
+            .for_each(|list| list[..size as usize].fill(0));
+        return (refused(6, peeled.looked()), Some(peeled));
     }
     difference.lay(columns);
+    let [ours, theirs] = lists;
     let reading = Reading {
         refusal: 0,
-        complete: u32::from(end == End::Complete),
-        ours: lay_list(ours, &listed, true, size),
-        theirs: lay_list(theirs, &listed, false, size),
+        complete: u32::from(peeled.end == End::Complete),
+        ours: lay_list(ours, &peeled.listed, true, size),
+        theirs: lay_list(theirs, &peeled.listed, false, size),
+        looked: peeled.looked(),
     };
-    (reading, Some(end))
+    (reading, Some(peeled))
 }

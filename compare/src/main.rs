@@ -14,6 +14,7 @@ mod honest;
 mod known;
 mod known_filters;
 mod library;
+mod looked;
 mod malicious;
 mod messages;
 mod model;
@@ -51,6 +52,7 @@ pub struct Tally {
     seed: u64,
     ends: Vec<(End, u64)>,
     estimates: estimates::Counts,
+    looked: looked::Counts,
     messages: messages::Counts,
     sessions: sessions::Counts,
     gathered: Gathered,
@@ -184,13 +186,16 @@ fn main() {
         ["stand-ins"] => stand_ins(None),
         ["stand-ins", part] => stand_ins(Some(part)),
         ["estimates"] => compare_estimates(),
+        ["looked"] => compare_looked(),
         ["sessions", ..] => compare(true),
         _ => compare(false),
     }
 }
 
 fn usage() {
-    println!("usage: compare [estimates | sessions | stand-ins [PART] | mutate CALLS SEED]");
+    println!(
+        "usage: compare [estimates | looked | sessions | stand-ins [PART] | mutate CALLS SEED]"
+    );
     exit(1);
 }
 
@@ -199,6 +204,7 @@ fn begin() -> Tally {
     let checked = known::check_model()
         .and_then(|()| bits::check_sentence())
         .and_then(|()| known_filters::check_model())
+        .and_then(|()| looked::check_model())
         .and_then(|()| estimates::check_model())
         .and_then(|()| messages::check_model());
     if let Err(what) = checked {
@@ -210,6 +216,7 @@ fn begin() -> Tally {
         seed: 0,
         ends: Vec::new(),
         estimates: estimates::Counts::default(),
+        looked: looked::Counts::default(),
         messages: messages::Counts::default(),
         sessions: sessions::Counts::default(),
         gathered: Gathered::default(),
@@ -232,9 +239,10 @@ fn mutate(calls: &str, seed: &str) {
 /// The stand-ins of a part: whether each fault of theirs is found, and none where there is none.
 type AreCaught = fn(fn() -> Tally) -> bool;
 
-const STAND_INS: [(&str, AreCaught); 3] = [
+const STAND_INS: [(&str, AreCaught); 4] = [
     ("packing", bits::stand_ins::are_caught),
     ("estimates", estimates::stand_ins::are_caught),
+    ("looked", looked::stand_ins::are_caught),
     ("sessions", sessions::stand_ins::are_caught),
 ];
 
@@ -261,6 +269,15 @@ fn compare_estimates() {
     estimates::compare(&mut tally);
     tally.tell_last();
     estimates_must_be_enough(&tally);
+    println!("{} comparisons, no difference", tally.total());
+}
+
+/// Compares what is made for the number of buckets looked at alone, likewise.
+fn compare_looked() {
+    let mut tally = begin();
+    looked::compare(&mut tally);
+    tally.tell_last();
+    looked_must_be_enough(&tally);
     println!("{} comparisons, no difference", tally.total());
 }
 
@@ -303,6 +320,7 @@ fn compare_lower_layers(tally: &mut Tally) {
     honest::compare(tally);
     malicious::compare(tally);
     crafted::compare(tally);
+    looked::compare(tally);
     estimates::compare(tally);
     messages::compare(tally);
     differ::compare(tally);
@@ -319,6 +337,7 @@ fn lower_layers_must_be_enough(tally: &Tally) {
         println!("{LEAST_READINGS} readings are asked for, {LEAST_OF_AN_END} of each end");
         exit(1);
     }
+    looked_must_be_enough(tally);
     estimates_must_be_enough(tally);
     if !messages::are_enough(&tally.messages) {
         println!("more messages are asked for, or more of a kind or of a refusal");
@@ -329,6 +348,13 @@ fn lower_layers_must_be_enough(tally: &Tally) {
 fn estimates_must_be_enough(tally: &Tally) {
     if !tally.estimates.are_enough() {
         println!("more estimates are asked for, or more of a kind");
+        exit(1);
+    }
+}
+
+fn looked_must_be_enough(tally: &Tally) {
+    if !tally.looked.are_enough() {
+        println!("more numbers of buckets looked at are asked for, or more of a kind");
         exit(1);
     }
 }

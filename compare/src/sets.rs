@@ -1,9 +1,10 @@
 //! Random sets, tables and received columns, and one reading by the model and the library.
 
 use crate::filters::{self, End, Filter, Reading};
+use crate::looked::LibraryRead;
 use crate::model::Columns;
 use crate::random::Random;
-use crate::{lent, library, Tally, GUARD};
+use crate::{lent, Tally, GUARD};
 use std::collections::HashSet;
 
 /// So many different IDs; short ones come too, 0 among them.
@@ -126,17 +127,17 @@ impl Call {
         filters::read(&self.table, columns, ours, theirs, self.size, self.salt)
     }
 
-    fn read_by_library(&mut self) -> Reading {
+    pub fn read_by_library(&mut self, library: &LibraryRead) -> Reading {
         let columns = Columns {
             ids: lent(&mut self.ids),
             hashes: lent(&mut self.hashes),
             counts: lent(&mut self.counts),
         };
-        let (ours, theirs) = (lent(&mut self.ours), lent(&mut self.theirs));
-        library::filters::read(&mut self.table, columns, ours, theirs, self.size, self.salt)
+        let lists = [lent(&mut self.ours), lent(&mut self.theirs)];
+        library(&mut self.table, columns, lists, self.size, self.salt)
     }
 
-    /// One comparison of a reading, with all that is lent.
+    /// One comparison of a reading, the number of buckets looked at among it, with all that is lent.
     pub fn compare(self, tally: &mut Tally) -> (Reading, Option<End>) {
         self.compare_and_then(tally, |_| {})
     }
@@ -149,13 +150,20 @@ impl Call {
     ) -> (Reading, Option<End>) {
         let (mut by_model, mut by_library) = (self.clone(), self.clone());
         let (model, end) = by_model.read_by_model();
-        let library = by_library.read_by_library();
+        let library = by_library.read_by_library(&tally.looked.library);
         left(&mut by_model);
         if let Some(end) = end {
             tally.read(end);
         }
+        tally.looked.made(self.size, &model, end);
+        let subject = tally.subject_name();
         let call = || format!("read {self:x?}");
-        tally.same(call, (model, by_model), (library, by_library));
+        tally.same_of_kind(
+            || String::from(subject),
+            call,
+            (model, by_model),
+            (library, by_library),
+        );
         (model, end)
     }
 }

@@ -53,6 +53,7 @@ struct TandawireReading {
     complete: u32,
     ours: usize,
     theirs: usize,
+    looked: usize,
 }
 
 // Safety, for all below: as in library.rs.
@@ -118,8 +119,7 @@ pub fn build(table: &mut [u8], columns: Columns, size: u32, salt: u32) -> u32 {
 pub fn read(
     table: &mut [u8],
     columns: Columns,
-    ours: &mut [u64],
-    theirs: &mut [u64],
+    [ours, theirs]: [&mut [u64]; 2],
     size: u32,
     salt: u32,
 ) -> Reading {
@@ -146,5 +146,6 @@ pub fn read(
         complete: reading.complete,
         ours: reading.ours,
         theirs: reading.theirs,
+        looked: reading.looked,
     }
 }

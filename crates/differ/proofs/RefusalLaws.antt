@@ -1,26 +1,24 @@
 -- Behind the tests on the tables and the size, the calls of `filter` refuse nothing but a false reading: `shown` prints a listing or refusal 6.
 -- Assumes nothing.
-use mathlib.Core.Path.{_≡_, refl, sym, ap, _∙_, subst}
-use mathlib.Core.Bool.{Bool, true, false, _&&_, cond, and-eq-true-iff}
-use mathlib.Core.List.{List, [], _∷_, map}
+use mathlib.Core.Path.{_≡_, refl, sym, subst}
+use mathlib.Core.Bool.{true, false, _&&_, and-eq-true-iff}
+use mathlib.Core.List.{List}
 use mathlib.Core.Logic.{_⊎_, inl, inr}
-use Prim.Native.Nat.{ℕ, suc, _+_, _^_, _≤_, _<_}
+use Prim.Native.Nat.{ℕ, _≤_}
 use native.Mathlib.Omega.{arith}
 use lib.Dec.{leb}
-use lib.IntN.{ℤ, pos, _+ℤ_}
-use lib.ListN.{length, take, replicate, getD, length-take, length-map}
-use lib.Seq.{getD-take}
-use borrow.Author.Tests.{leb-true, le-leb, lt-ltb}
-use Rattle.bucket.specs.Bucket.{Bucket, _⊕_, 𝟎}
-use Rattle.bucket.specs.Columns.{Columns, view}
+use lib.ListN.{replicate}
+use borrow.Author.Tests.{leb-true, le-leb}
+use Rattle.bucket.specs.Bucket.{Bucket}
+use Rattle.bucket.specs.Columns.{Columns}
 use Rattle.bucket.proofs.TestLaws.{and-holds}
 use Rattle.filter.specs.declared.answers.Refusal.the-variants.{None}
 use Rattle.filter.specs.declared.answers.Verdict.{Verdict}
 use Rattle.filter.specs.declared.answers.Verdict.the-variants.{Complete, Stuck, False}
-use Rattle.filter.specs.Filter.{Item, ours, Rule, filterRule, touches, cell, put, sumAt, load, filterOf}
+use Rattle.filter.specs.Filter.{filterRule, filterOf}
 use Rattle.filter.specs.Table.{firstEight, idsOf, isTable}
 use Rattle.filter.specs.Peeling.{Outcome}
-use Rattle.filter.specs.Calls.{Read, inRange, isCount, allCounts, areCounts, hasRoom, filled, buildRefusal, buildCall, readWith, readRefusal, outcomeOf, verdictOf}
+use Rattle.filter.specs.Calls.{Read, inRange, areCounts, hasRoom, filled, buildRefusal, buildCall, readWith, readRefusal, outcomeOf, verdictOf}
 use Rattle.filter.specs.Steps.{Wide}
 use Rattle.filter.proofs.FilledLaws.{wide-of, wide-filled}
 use Rattle.filter.proofs.GrantedLaws.{granted-read}
@@ -28,11 +26,11 @@ use Rattle.filter.proofs.MadeLaws.{made-counts}
 use Rattle.filter.proofs.TableLaws.{ids-length, table-count}
 use Rattle.differ.specs.Report.{blank, received, result}
 
-refusal-with : (v : Verdict) (size : ℕ) (r : Outcome) (c : Columns) (o th : List ℕ) → (readWith v size r c o th .answer .refusal ≡ 0) ⊎ (readWith v size r c o th .answer .refusal ≡ 6)
+refusal-with : (v : Verdict) (size : ℕ) (r : Outcome) (l : ℕ) (c : Columns) (o th : List ℕ) → (readWith v size r l c o th .answer .refusal ≡ 0) ⊎ (readWith v size r l c o th .answer .refusal ≡ 6)
 unfolding readWith
-refusal-with Complete size r c o th = inl refl
-refusal-with Stuck size r c o th = inl refl
-refusal-with False size r c o th = inr refl
+refusal-with Complete size r l c o th = inl refl
+refusal-with Stuck size r l c o th = inl refl
+refusal-with False size r l c o th = inr refl
 
 -- the tests of the two calls
 module _ (size : ℕ) (a b : List ℕ) (tables : isTable firstEight a && isTable firstEight b ≡ true) (range : leb 37 size && leb size 512 ≡ true) where
@@ -83,4 +81,4 @@ module _ (size : ℕ) (a b : List ℕ) (tables : isTable firstEight a && isTable
       let c = received size b in
       let zeros : List ℕ = replicate 512 0 in
       subst (λ (q : Read). (q .answer .refusal ≡ 0) ⊎ (q .answer .refusal ≡ 6)) (sym (granted-read firstEight size 0 a c zeros zeros granted))
-      (refusal-with (verdictOf firstEight size 0 a c) size (outcomeOf firstEight size 0 a c) c zeros zeros)
+      (refusal-with (verdictOf (idsOf firstEight a) size 0 c) size (outcomeOf (idsOf firstEight a) size 0 c) _ c zeros zeros)

@@ -18,8 +18,8 @@ use Rattle.filter.specs.declared.answers.ReadAnswer.{ReadAnswer}
 use Rattle.filter.specs.Answers.{refusalNumber}
 use Rattle.filter.specs.Filter.{filterRule}
 use Rattle.filter.specs.Peeling.{Outcome}
-use Rattle.filter.specs.Table.{firstEight, isTable}
-use Rattle.filter.specs.Calls.{Read, built, buildCall, answered, unread, readWith, readRefusal, outcomeOf, verdictOf, readCall}
+use Rattle.filter.specs.Table.{firstEight, idsOf, isTable}
+use Rattle.filter.specs.Calls.{Read, built, buildCall, answered, unread, readWith, readBy, readRefusal, outcomeOf, verdictOf, readCall}
 use Rattle.filter.proofs.SideLaws.{sides-length}
 use Rattle.filter.proofs.PeelLaws.{listed-few}
 use Rattle.differ.specs.Text.{oursLabel, theirsLabel, listing, refusal, Writes}
@@ -65,12 +65,12 @@ listing-fits size whole m n o th hs hw few =
     )
 
 -- at most as many IDs are listed as there are buckets
-few-with : (v : Verdict) (size : ℕ) (r : Outcome) (c : Columns) (o th : List ℕ) → length (r .listed) ≤ size
-    → readWith v size r c o th .answer .ours + readWith v size r c o th .answer .theirs ≤ size
+few-with : (v : Verdict) (size : ℕ) (r : Outcome) (l : ℕ) (c : Columns) (o th : List ℕ) → length (r .listed) ≤ size
+    → readWith v size r l c o th .answer .ours + readWith v size r l c o th .answer .theirs ≤ size
 unfolding readWith
-few-with Complete size r c o th h = omega (arith, sides-length (r .listed))
-few-with Stuck size r c o th h = omega (arith, sides-length (r .listed))
-few-with False size r c o th h = omega arith
+few-with Complete size r l c o th h = omega (arith, sides-length (r .listed))
+few-with Stuck size r l c o th h = omega (arith, sides-length (r .listed))
+few-with False size r l c o th h = omega arith
 
 few-read : (size : ℕ) (t : List ℕ) (c : Columns) (o th : List ℕ)
     → readCall firstEight size 0 t c o th .answer .ours + readCall firstEight size 0 t c o th .answer .theirs ≤ size
@@ -81,10 +81,10 @@ few-read size t c o th = go (eqb n 0)
     n = refusalNumber (readRefusal firstEight size 0 t c o th)
 
     r : Read
-    r = readWith (verdictOf firstEight size 0 t c) size (outcomeOf firstEight size 0 t c) c o th
+    r = readBy (idsOf firstEight t) size 0 c o th
 
     go : (b : Bool) → cond b r (unread n c o th) .answer .ours + cond b r (unread n c o th) .answer .theirs ≤ size
-    go true = few-with (verdictOf firstEight size 0 t c) size (outcomeOf firstEight size 0 t c) c o th (listed-few (filterRule size 0) _)
+    go true = few-with (verdictOf (idsOf firstEight t) size 0 c) size (outcomeOf (idsOf firstEight t) size 0 c) _ c o th (listed-few (filterRule size 0) _)
     go false = omega arith
 
 pub few-listed : (size : ℕ) (a b : List ℕ) → result size a b .answer .ours + result size a b .answer .theirs ≤ size

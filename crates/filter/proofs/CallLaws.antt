@@ -19,12 +19,12 @@ use Rattle.filter.specs.declared.answers.Verdict.{Verdict}
 use Rattle.filter.specs.declared.answers.Verdict.the-variants.{Complete, Stuck, False}
 use Rattle.filter.specs.Answers.{answer}
 use Rattle.filter.specs.Filter.{Item, Rule, rule, filterRule, oursOf, theirsOf}
-use Rattle.filter.specs.Peeling.{Outcome, allZero, agrees, reading, verdictBy, verdict}
-use Rattle.filter.specs.Calls.{inRange, areCounts, hasRoom, filled, listedInto, answered, readAs, readWith, readRefusal, outcomeOf, verdictOf, readCall}
+use Rattle.filter.specs.Peeling.{Outcome, allZero, agrees, reading, looked, verdictBy, verdict}
+use Rattle.filter.specs.Calls.{inRange, areCounts, hasRoom, filled, listedInto, Read, answered, readAs, readWith, readRefusal, readBy, readCall}
 use Rattle.filter.specs.Table.{firstEight, idsOf, isTable}
 use Rattle.filter.specs.Steps.{Wide, every, Ready, Listed, Peels}
 use Rattle.filter.proofs.FilledLaws.{view-filled-in, filled-filled, filled-cong, wide-filled, wide-of}
-use Rattle.filter.proofs.PeelLaws.{Alike, reading-cong, all-zero-cong}
+use Rattle.filter.proofs.PeelLaws.{Alike, reading-cong, looked-cong, all-zero-cong}
 use Rattle.filter.proofs.SideLaws.{ours-few, theirs-few}
 use Rattle.filter.proofs.JudgeLaws.{every-reverse, agrees-sides}
 
@@ -125,6 +125,13 @@ peels-call size salt K D c₀ w k {c₁} {o₁} {t₁} {o₀} {t₀} e f g h {fi
     (subst (λ (d : Columns). Peels size (reading (rule K size salt) (view d)) d o₁ t₁ fine c o t a b) f
     (subst (λ (m : ℕ). Peels size (reading (rule m size salt) (view c₁)) c₁ o₁ t₁ fine c o t a b) e p))))
 
+-- and the number of buckets looked at
+pub looked-call : (size salt K : ℕ) (D : ℕ → Bucket) (c₀ : Columns) → Wide size c₀ → (k : ℕ) {c₁ : Columns} → k ≡ K → c₁ ≡ filled size D c₀
+    → {l : ℕ} → l ≡ looked (rule k size salt) (view c₁) → l ≡ looked (rule K size salt) D
+looked-call size salt K D c₀ w k {c₁} e f m =
+    m ∙ ap₂ (λ (j : ℕ) (c : Columns). looked (rule j size salt) (view c)) e f
+    ∙ looked-cong (rule K size salt) (view (filled size D c₀)) D (λ i h. view-filled-in size D c₀ i w h)
+
 -- ---- what a call leaves
 
 -- one of the two lists: cleared, and xs listed in it, the last first
@@ -212,12 +219,12 @@ module _ {size salt : ℕ} {tb : List ℕ} {c₀ : Columns} {o₀ t₀ : List �
         ∙ ap₂ _&&_ (every-reverse true ids (oursOf (q .listed))) (every-reverse false ids (theirsOf (q .listed)))
         ∙ agrees-sides ids (q .listed)
 
-    read-listed : (whole : ℕ) → answered (answer 0 whole a b) c o t ≡ readAs whole size q c₀ o₀ t₀
-    read-listed whole = λ k. answered (answer 0 whole (ours-all .count k) (theirs-all .count k)) (p .rest-is e k)
+    read-listed : (whole : ℕ) {l n : ℕ} → l ≡ n → answered (answer 0 whole a b l) c o t ≡ readAs whole size q n c₀ o₀ t₀
+    read-listed whole m = λ k. answered (answer 0 whole (ours-all .count k) (theirs-all .count k) (m k)) (p .rest-is e k)
         (list-listed ours-all k) (list-listed theirs-all k)
 
-  -- by the verdict that the code comes to
-  module _ {v : Verdict} (e : v ≡ verdictBy fine (allZero (view c) size)
+  -- by the verdict that the code comes to, and the number that it has
+  module _ {l n : ℕ} (m : l ≡ n) {v : Verdict} (e : v ≡ verdictBy fine (allZero (view c) size)
       (every true (idsOf firstEight tb) (take a o) && every false (idsOf firstEight tb) (take b t))) where
     -- it is the definition's
     verdict-is : v ≡ verdict (filterRule size salt) (idsOf firstEight tb) q
@@ -238,21 +245,27 @@ module _ {size salt : ℕ} {tb : List ℕ} {c₀ : Columns} {o₀ t₀ : List �
         go false k = ne (sym h ∙ e ∙ ap (λ (f : Bool). verdictBy f (allZero (view c) size)
             (every true (idsOf firstEight tb) (take a o) && every false (idsOf firstEight tb) (take b t))) k)
 
-    pub read-complete : v ≡ Complete → answered (answer 0 1 a b) c o t ≡ readWith (verdict (filterRule size salt) (idsOf firstEight tb) q) size q c₀ o₀ t₀
-    unfolding readWith
-    read-complete h = read-listed (in-order Complete h (λ x. cc)) 1 ∙ ap (λ (u : Verdict). readWith u size q c₀ o₀ t₀) (sym h ∙ verdict-is)
+    -- what the definition makes of it
+    abbrev Told : Verdict → Read
+    Told u = readWith u size q n c₀ o₀ t₀
 
-    pub read-stuck : v ≡ Stuck → answered (answer 0 0 a b) c o t ≡ readWith (verdict (filterRule size salt) (idsOf firstEight tb) q) size q c₀ o₀ t₀
+    told : (u : Verdict) → v ≡ u → Told u ≡ Told (verdict (filterRule size salt) (idsOf firstEight tb) q)
+    told u h = ap Told (sym h ∙ verdict-is)
+
+    pub read-complete : v ≡ Complete → answered (answer 0 1 a b l) c o t ≡ Told (verdict (filterRule size salt) (idsOf firstEight tb) q)
     unfolding readWith
-    read-stuck h = read-listed (in-order Stuck h (λ x. cc)) 0 ∙ ap (λ (u : Verdict). readWith u size q c₀ o₀ t₀) (sym h ∙ verdict-is)
+    read-complete h = read-listed (in-order Complete h (λ x. cc)) 1 m ∙ told Complete h
+
+    pub read-stuck : v ≡ Stuck → answered (answer 0 0 a b l) c o t ≡ Told (verdict (filterRule size salt) (idsOf firstEight tb) q)
+    unfolding readWith
+    read-stuck h = read-listed (in-order Stuck h (λ x. cc)) 0 m ∙ told Stuck h
 
     pub read-false : v ≡ False → {c′ : Columns} {o′ t′ : List ℕ} → c′ ≡ filled size (λ i. 𝟎) c → o′ ≡ listedInto size [] o → t′ ≡ listedInto size [] t
-        → answered (answer 6 0 0 0) c′ o′ t′ ≡ readWith (verdict (filterRule size salt) (idsOf firstEight tb) q) size q c₀ o₀ t₀
+        → answered (answer 6 0 0 0 l) c′ o′ t′ ≡ Told (verdict (filterRule size salt) (idsOf firstEight tb) q)
     unfolding readWith
     read-false h x y z =
         let u = x ∙ ap (filled size (λ i. 𝟎)) (p .kept) ∙ filled-filled size (p .rest) (λ i. 𝟎) c₀ (r .received .wide) in
-        (λ k. answered (answer 6 0 0 0) (u k) ((y ∙ list-cleared ours-some) k) ((z ∙ list-cleared theirs-some) k))
-        ∙ ap (λ (w : Verdict). readWith w size q c₀ o₀ t₀) (sym h ∙ verdict-is)
+        (λ k. answered (answer 6 0 0 0 (m k)) (u k) ((y ∙ list-cleared ours-some) k) ((z ∙ list-cleared theirs-some) k)) ∙ told False h
 
 -- ---- the call as a whole
 
@@ -271,7 +284,7 @@ pub record Granted (size salt : ℕ) (t : List ℕ) (c : Columns) (o th : List �
   pub roomy : hasRoom size c && (leb size (length o) && leb size (length th)) ≡ true
 
 module _ {size salt : ℕ} {t : List ℕ} {c : Columns} {o th : List ℕ} (g : Granted size salt t c o th) where
-  pub read-ends : readWith (verdictOf firstEight size salt t c) size (outcomeOf firstEight size salt t c) c o th ≡ readCall firstEight size salt t c o th
+  pub read-ends : readBy (idsOf firstEight t) size salt c o th ≡ readCall firstEight size salt t c o th
   unfolding readCall readRefusal
   read-ends = rw (g .formed, g .ranged, g .roomy)
 

@@ -35,7 +35,7 @@ use Rattle.filter.specs.Table.{firstEight, idsOf}
 use Rattle.filter.specs.Filter.{Item, ids, oursOf, theirsOf, Rule, filterRule, filterOf, difference}
 use Rattle.filter.specs.Peeling.{Outcome, isComplete}
 use Rattle.filter.specs.Stopping.{differing, Clear, Exactly}
-use Rattle.filter.specs.Calls.{listedInto, readRefusal, Read, readWith, outcomeOf, verdictOf, readCall}
+use Rattle.filter.specs.Calls.{listedInto, readRefusal, Read, readWith, outcomeOf, verdictOf, lookedOf, readBy, readCall}
 use Rattle.filter.proofs.SelectLaws.{elem-mem, mem-elem, elem-reverse, distinct-append, distinct-reverse, distinct-minus, mem-minus, minus-cong}
 use Rattle.filter.proofs.SideLaws.{distinct-ours, distinct-theirs, sides-apart}
 use Rattle.filter.proofs.SumLaws.{filter-append, filter-reverse}
@@ -89,22 +89,22 @@ module _ (derive : ℕ → ℕ) (size salt : ℕ) (t : List ℕ) (c : Columns) (
   complete-table : Distinct (idsOf derive t)
   complete-table = ids-distinct derive t (granted-table derive size salt t c o th granted)
 
-  complete-verdict : verdictOf derive size salt t c ≡ Complete
+  complete-verdict : verdictOf (idsOf derive t) size salt c ≡ Complete
   unfolding readWith
   complete-verdict =
-      go (verdictOf derive size salt t c) (subst (λ (m : Read). m .answer .complete ≡ 1) (granted-read derive size salt t c o th granted) whole)
+      go (verdictOf (idsOf derive t) size salt c) (subst (λ (m : Read). m .answer .complete ≡ 1) (granted-read derive size salt t c o th granted) whole)
     where
-      go : (v : Verdict) → readWith v size (outcomeOf derive size salt t c) c o th .answer .complete ≡ 1 → v ≡ Complete
+      go : (v : Verdict) → readWith v size (outcomeOf (idsOf derive t) size salt c) (lookedOf (idsOf derive t) size salt c) c o th .answer .complete ≡ 1 → v ≡ Complete
       go Complete k = refl
       go Stuck k = absurd (omega arith)
       go False k = absurd (omega arith)
 
   complete-lists :
-      let l = outcomeOf derive size salt t c .listed in
+      let l = outcomeOf (idsOf derive t) size salt c .listed in
       (listedOurs (readCall derive size salt t c o th) ≡ reverse (oursOf l)) × (listedTheirs (readCall derive size salt t c o th) ≡ reverse (theirsOf l))
   unfolding readWith
   complete-lists =
-      let l = outcomeOf derive size salt t c .listed in
+      let l = outcomeOf (idsOf derive t) size salt c .listed in
       rw (granted-read derive size salt t c o th granted, complete-verdict) (listed-back size (oursOf l) o, listed-back size (theirsOf l) th)
 
 -- "the filter made by the rules .. equals the received one in every bucket and column"
@@ -118,7 +118,7 @@ CompleteTrusted derive =
 pub complete-trusted : (derive : ℕ → ℕ) → CompleteTrusted derive
 complete-trusted derive size salt t c o th accepted whole i h =
     let R = filterRule size salt in
-    let l = outcomeOf derive size salt t c .listed in
+    let l = outcomeOf (idsOf derive t) size salt c .listed in
     let lists = complete-lists derive size salt t c o th whole in
     rw (lists .0, lists .1)
     (sound R (idsOf derive t) (view c) (complete-verdict derive size salt t c o th whole) (complete-table derive size salt t c o th whole) i h
@@ -134,7 +134,7 @@ CompleteSet derive =
 pub complete-set : (derive : ℕ → ℕ) → CompleteSet derive
 complete-set derive size salt t c o th whole =
     let R = filterRule size salt in
-    let l = outcomeOf derive size salt t c .listed in
+    let l = outcomeOf (idsOf derive t) size salt c .listed in
     let lists = complete-lists derive size salt t c o th whole in
     let v = complete-verdict derive size salt t c o th whole in
     rw (lists .0, lists .1) (
@@ -170,7 +170,10 @@ reads-exactly derive bound size salt t c o th granted s ds small made clear =
     Right m = (m .answer .refusal ≡ 0) × Exactly (filterRule size salt) (idsOf derive t) s (listedOurs m) (listedTheirs m) (eqb (m .answer .complete) 1)
 
     r : Outcome
-    r = outcomeOf derive size salt t c
+    r = outcomeOf (idsOf derive t) size salt c
+
+    l : ℕ
+    l = lookedOf (idsOf derive t) size salt c
 
     table : Distinct (idsOf derive t)
     table = ids-distinct derive t (granted-table derive size salt t c o th granted)
@@ -181,7 +184,7 @@ reads-exactly derive bound size salt t c o th granted s ds small made clear =
     rule-fair : Fair R (differing (idsOf derive t) s)
     rule-fair = fair (placeCount size) size salt (idsOf derive t) s (ids-below derive bound t) (λ a m. small a (mem-elem m)) clear
 
-    never : (verdictOf derive size salt t c ≡ Complete) ⊎ (verdictOf derive size salt t c ≡ Stuck)
+    never : (verdictOf (idsOf derive t) size salt c ≡ Complete) ⊎ (verdictOf (idsOf derive t) size salt c ≡ Stuck)
     never = never-false R rule-placed (idsOf derive t) s table ds (view c) made rule-fair
 
     dl : Distinct (ids (r .listed))
@@ -193,7 +196,7 @@ reads-exactly derive bound size salt t c o th granted s ds small made clear =
         (distinct-reverse (oursOf (r .listed)) (distinct-ours (r .listed) dl)) (distinct-reverse (theirsOf (r .listed)) (distinct-theirs (r .listed) dl))
         (λ a m n. sides-apart (r .listed) dl a (listed-mem (oursOf (r .listed)) a m) (listed-mem (theirsOf (r .listed)) a n))
 
-    listed : (v : Verdict) → verdictOf derive size salt t c ≡ v
+    listed : (v : Verdict) → verdictOf (idsOf derive t) size salt c ≡ v
         → Exactly R (idsOf derive t) s (take (length (oursOf (r .listed))) (listedInto size (reverse (oursOf (r .listed))) o))
         (take (length (theirsOf (r .listed))) (listedInto size (reverse (theirsOf (r .listed))) th)) (isComplete v)
     listed v e =
@@ -201,10 +204,10 @@ reads-exactly derive bound size salt t c o th granted s ds small made clear =
         (exactly-listed R (idsOf derive t) s (r .listed) (isComplete v) once
         (rw e at (exactly R rule-placed (idsOf derive t) s table ds (view c) made rule-fair)))
 
-    go : (verdictOf derive size salt t c ≡ Complete) ⊎ (verdictOf derive size salt t c ≡ Stuck)
-        → Right (readWith (verdictOf derive size salt t c) size r c o th)
-    go (inl e) = subst (λ (v : Verdict). Right (readWith v size r c o th)) (sym e) (refl, listed Complete e)
-    go (inr e) = subst (λ (v : Verdict). Right (readWith v size r c o th)) (sym e) (refl, listed Stuck e)
+    go : (verdictOf (idsOf derive t) size salt c ≡ Complete) ⊎ (verdictOf (idsOf derive t) size salt c ≡ Stuck)
+        → Right (readBy (idsOf derive t) size salt c o th)
+    go (inl e) = subst (λ (v : Verdict). Right (readWith v size r l c o th)) (sym e) (refl, listed Complete e)
+    go (inr e) = subst (λ (v : Verdict). Right (readWith v size r l c o th)) (sym e) (refl, listed Stuck e)
 
 -- ---- demand 3, by document 01's derivation of IDs
 

@@ -34,7 +34,7 @@ use Rattle.filter.specs.Calls.{allCounts, hasRoom}
 use Rattle.filter.proofs.ClearLaws.{parts, allBelow, all-below, clearAt, clearAll, clear-of, closedAt, openAll, no-stopping-of, known, Right, noted, noted-same}
 use Rattle.filter.proofs.StratumLaws.{total-cong, strata-differing, estimate-listed, stratum-listed, stratum-whole}
 use Rattle.filter.proofs.IdLaws.{first-eight-below}
-use Rattle.filter.proofs.PeelLaws.{next-none, inv-start, inv-nothing}
+use Rattle.filter.proofs.PeelLaws.{impure-reading}
 use Rattle.filter.proofs.EstimateKnown.{unknown-exactly}
 use Rattle.filter.proofs.EstimateExact.{estimates-built}
 
@@ -197,8 +197,7 @@ stuckAt = stratum 31 (less (view oneStuck) (view blank))
 
 stuck-read : readingAt 0 31 (less (view oneStuck) (view blank)) ≡ ended true [] stuckAt
 stuck-read =
-    inv-nothing R stuckAt 79 [] stuckAt (inv-start R stuckAt)
-    (next-none R [] stuckAt (λ j h. not-true (isPure R j (stuckAt j)) (all-below (λ i. not (isPure R i (stuckAt i))) 79 j test h)))
+    impure-reading R stuckAt (λ j h. not-true (isPure R j (stuckAt j)) (all-below (λ i. not (isPure R i (stuckAt i))) 79 j test h)) .0
   where
     R : Rule
     R = stratumRule 0

@@ -25,8 +25,8 @@ use Rattle.filter.specs.declared.answers.Refusal.the-variants.{
   Limit,
 }
 use Rattle.filter.specs.Answers.{refusalNumber, firstOf}
-use Rattle.filter.specs.Table.{isTable}
-use Rattle.filter.specs.Calls.{inRange, areCounts, hasRoom, listedInto, readRefusal, unread, readWith, outcomeOf, verdictOf, readCall}
+use Rattle.filter.specs.Table.{idsOf, isTable}
+use Rattle.filter.specs.Calls.{inRange, areCounts, hasRoom, listedInto, readRefusal, unread, readBy, readCall}
 
 -- only `None` has the number 0
 pub number-zero : (r : Refusal) → refusalNumber r ≡ 0 → r ≡ None
@@ -63,12 +63,16 @@ module _ (derive : ℕ → ℕ) (size salt : ℕ) (t : List ℕ) (c : Columns) (
   unfolding inRange
   granted-size = leb-true 37 size (and-eq-true-iff (leb 37 size) _ .0 (tests .1) .0)
 
+  pub granted-most : size ≤ 4096
+  unfolding inRange
+  granted-most = leb-true size 4096 (and-eq-true-iff (leb size 4096) _ .0 (and-eq-true-iff (leb 37 size) _ .0 (tests .1) .1) .0)
+
   pub granted-read : readCall derive size salt t c o th
-      ≡ readWith (verdictOf derive size salt t c) size (outcomeOf derive size salt t c) c o th
+      ≡ readBy (idsOf derive t) size salt c o th
   unfolding readCall
   granted-read =
       ap (λ (n : ℕ). cond (eqb n 0)
-      (readWith (verdictOf derive size salt t c) size (outcomeOf derive size salt t c) c o th)
+      (readBy (idsOf derive t) size salt c o th)
       (unread n c o th)) (ap refusalNumber granted)
 
 -- what is answered complete was granted
@@ -81,7 +85,7 @@ complete-granted derive size salt t c o th e = go (eqb n 0) refl e
     n = refusalNumber (readRefusal derive size salt t c o th)
 
     go : (b : Bool) → eqb n 0 ≡ b
-        → cond b (readWith (verdictOf derive size salt t c) size (outcomeOf derive size salt t c) c o th) (unread n c o th) .answer .complete ≡ 1
+        → cond b (readBy (idsOf derive t) size salt c o th) (unread n c o th) .answer .complete ≡ 1
         → readRefusal derive size salt t c o th ≡ None
     go true q k = number-zero (readRefusal derive size salt t c o th) (eqb-true n 0 q)
     go false q k = cc

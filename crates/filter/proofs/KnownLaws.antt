@@ -19,7 +19,7 @@ use Rattle.filter.specs.Filter.{Item, sumAt}
 use Rattle.filter.specs.Peeling.{Outcome, ended, allZero, verdictBy, isComplete, isPure}
 use Rattle.filter.specs.Estimator.{stratumRule, stratum, strataVerdict, readingAt, readings, sampled, estimateOf}
 use Rattle.filter.proofs.ListLaws.{length-nil}
-use Rattle.filter.proofs.PeelLaws.{next-none, inv-start, inv-nothing}
+use Rattle.filter.proofs.PeelLaws.{impure-reading}
 use Rattle.filter.proofs.SoundLaws.{all-zero, verdict-complete, reading-sum}
 use Rattle.filter.proofs.ExactLaws.{all-zero-of}
 use Rattle.filter.proofs.StrataLaws.{sampled-cases, estimate-step}
@@ -132,9 +132,7 @@ module _ (salt i : ℕ) (f : ℕ → Bucket) where
       impure j = unfold isPure 𝟎 in refl
 
       read : readingAt salt i f ≡ ended true [] (stratum i f)
-      read =
-          inv-nothing (stratumRule salt) (stratum i f) 79 [] (stratum i f) (inv-start (stratumRule salt) (stratum i f))
-          (next-none (stratumRule salt) [] (stratum i f) (λ j h. ap (isPure (stratumRule salt) j) (z j h) ∙ impure j))
+      read = impure-reading (stratumRule salt) (stratum i f) (λ j h. ap (isPure (stratumRule salt) j) (z j h) ∙ impure j) .0
 
   pub empty-zeros : strataVerdict (readingAt salt i f) ≡ Complete → readingAt salt i f .listed ≡ [] → (j : ℕ) → j < 79 → stratum i f j ≡ 𝟎
   empty-zeros v l j h =

@@ -1,4 +1,4 @@
--- The laws of the crate `filter`, for its own proofs and for the crates above. Demand 3 stands in Demand3.
+-- The laws of the crate `filter`, for its own proofs and for the crates above. Demand 3 stands in Demand3, how long a reading can take in LookLaws.
 pub mod BitLaws
 pub mod MarkLaws
 pub mod RepeatLaws
@@ -13,6 +13,7 @@ pub mod NegatedLaws
 pub mod SpreadLaws
 pub mod GatherLaws
 pub mod PeelLaws
+pub mod LookLaws
 pub mod ShowLaws
 pub mod ListedLaws
 pub mod TakingLaws

@@ -1,6 +1,6 @@
--- A peeling, step by step: the search for the first pure bucket, what each kind of step leaves of the invariant
+-- A peeling, step by step: the search for the first pure bucket and how far it goes, what each kind of step leaves of the invariant
 -- `reading R f₀ ≡ run R k (next R acc f) acc f`, and that a reading goes by the buckets below the size alone. Assumes nothing.
-use mathlib.Core.Path.{_≡_, refl, sym, ap, ap₂, _∙_}
+use mathlib.Core.Path.{_≡_, refl, sym, ap, ap₂, subst, _∙_}
 use mathlib.Core.Bool.{Bool, true, false, _&&_, _||_, cond, and-eq-true-iff}
 use mathlib.Core.List.{List, [], _∷_}
 use mathlib.Core.Logic.{_⊎_, inl, inr}
@@ -19,6 +19,8 @@ use Rattle.filter.specs.Peeling.{
   sided,
   orElse,
   first,
+  upTo,
+  reach,
   allZero,
   Next,
   nothing,
@@ -33,6 +35,8 @@ use Rattle.filter.specs.Peeling.{
   next,
   run,
   reading,
+  looking,
+  looked,
 }
 use Rattle.filter.specs.Marks.{Least}
 use Rattle.filter.specs.Steps.{shows}
@@ -63,29 +67,47 @@ module _ (g : ℕ → Option Item) where
       go none k m (inl p) ih = ap g (sym p) ∙ k
       go none k m (inr p) ih = ih m j p (omega arith)
 
+  -- what a look finds, and how many buckets it goes over
+  abbrev pub Finds : ℕ → ℕ → Option Item → ℕ → Type 0
+  Finds i n o m = (first g i n ≡ o) × (reach g i n ≡ m)
+
+  one-on : (i n : ℕ) {o p : Option Item} {m : ℕ} → g i ≡ o → Finds (suc i) n p m → Finds i (suc n) (orElse o p) (upTo o (i + 1) m)
+  unfolding first reach
+  one-on i n e (d, r) = (ap₂ orElse e d, ap₂ (λ (o : Option Item) (m : ℕ). upTo o (i + 1) m) e r)
+
   -- nothing is found where there is nothing
-  pub first-of-none : (i n : ℕ) → ((j : ℕ) → i ≤ j → j < i + n → g j ≡ none) → first g i n ≡ none
-  unfolding first
-  first-of-none i zero h = refl
+  pub first-of-none : (i n : ℕ) → ((j : ℕ) → i ≤ j → j < i + n → g j ≡ none) → Finds i n none (i + n)
+  unfolding first reach
+  first-of-none i zero h = (refl, omega arith)
   first-of-none i (suc n) h =
-      ap₂ orElse (h i (omega arith) (omega arith)) (first-of-none (suc i) n (λ j l k. h j (omega arith) (omega arith)))
+      let r = one-on i n (h i (omega arith) (omega arith)) (first-of-none (suc i) n (λ j l k. h j (omega arith) (omega arith))) in
+      (r .0, omega (arith, r .1))
 
   -- nothing before j, then an answer at j
-  pub first-found : (i n j : ℕ) (x : Item) → ((k : ℕ) → i ≤ k → k < j → g k ≡ none) → i ≤ j → j < i + n → g j ≡ some x → first g i n ≡ some x
-  unfolding first
+  pub first-found : (i n j : ℕ) (x : Item) → ((k : ℕ) → i ≤ k → k < j → g k ≡ none) → i ≤ j → j < i + n → g j ≡ some x
+      → Finds i n (some x) (j + 1)
   first-found i zero j x h l b e = absurd (omega arith)
   first-found i (suc n) j x h l b e = go (eq-or-lt-of-le l) (first-found (suc i) n j x (λ k p q. h k (omega arith) q))
     where
-      go : (i ≡ j) ⊎ (i < j) → (suc i ≤ j → j < suc i + n → g j ≡ some x → first g (suc i) n ≡ some x)
-          → orElse (g i) (first g (suc i) n) ≡ some x
-      go (inl p) ih = ap (λ (o : Option Item). orElse o (first g (suc i) n)) (ap g p ∙ e)
-      go (inr p) ih = ap₂ orElse (h i (omega arith) p) (ih p (omega arith) e)
+      go : (i ≡ j) ⊎ (i < j) → (suc i ≤ j → j < suc i + n → g j ≡ some x → Finds (suc i) n (some x) (j + 1))
+          → Finds i (suc n) (some x) (j + 1)
+      go (inl p) ih = let r = one-on i n (ap g p ∙ e) (refl, refl) in (r .0, r .1 ∙ ap (λ (m : ℕ). m + 1) p)
+      go (inr p) ih = one-on i n (h i (omega arith) p) (ih p (omega arith) e)
 
-pub first-cong : (g h : ℕ → Option Item) (i n : ℕ) → ((j : ℕ) → i ≤ j → j < i + n → g j ≡ h j) → first g i n ≡ first h i n
-unfolding first
-first-cong g h i zero e = refl
+  pub reach-most : (i n : ℕ) → reach g i n ≤ i + n
+  unfolding reach
+  reach-most i zero = omega arith
+  reach-most i (suc n) = go (g i) (reach-most (suc i) n)
+    where
+      go : (o : Option Item) → reach g (suc i) n ≤ suc i + n → upTo o (i + 1) (reach g (suc i) n) ≤ i + suc n
+      go (some x) m = omega arith
+      go none m = omega arith
+
+pub first-cong : (g h : ℕ → Option Item) (i n : ℕ) → ((j : ℕ) → i ≤ j → j < i + n → g j ≡ h j) → Finds g i n (first h i n) (reach h i n)
+unfolding first reach
+first-cong g h i zero e = (refl, refl)
 first-cong g h i (suc n) e =
-    ap₂ orElse (e i (omega arith) (omega arith)) (first-cong g h (suc i) n (λ j l k. e j (omega arith) (omega arith)))
+    one-on g i n (e i (omega arith) (omega arith)) (first-cong g h (suc i) n (λ j l k. e j (omega arith) (omega arith)))
 
 -- ---- what a look shows
 
@@ -115,11 +137,11 @@ module _ (R : Rule) where
 
   -- nothing pure below i, and bucket i pure
   pub first-pure : (f : ℕ → Bucket) (n i : ℕ) → ((j : ℕ) → j < i → isPure R j (f j) ≡ false) → i < n → isPure R i (f i) ≡ true
-      → first (looks f) 0 n ≡ some (shown (f i))
+      → Finds (looks f) 0 n (some (shown (f i))) (i + 1)
   first-pure f n i h l e =
       first-found (looks f) 0 n i (shown (f i)) (λ k p q. look-not k (f k) (h k q)) (omega arith) (omega arith) (look-pure i (f i) e)
 
-  pub first-impure : (f : ℕ → Bucket) (n : ℕ) → ((j : ℕ) → j < n → isPure R j (f j) ≡ false) → first (looks f) 0 n ≡ none
+  pub first-impure : (f : ℕ → Bucket) (n : ℕ) → ((j : ℕ) → j < n → isPure R j (f j) ≡ false) → Finds (looks f) 0 n none (0 + n)
   first-impure f n h = first-of-none (looks f) 0 n (λ j l k. look-not j (f j) (h j (omega arith)))
 
 -- ---- what comes next
@@ -164,12 +186,12 @@ module _ (R : Rule) (acc : List Item) (f : ℕ → Bucket) where
 
   pub next-none : ((i : ℕ) → i < R .size → isPure R i (f i) ≡ false) → next R acc f ≡ nothing
   unfolding next
-  next-none h = ap (λ (o : Option Item). chosen o acc) (first-impure R f (R .size) h)
+  next-none h = ap (λ (o : Option Item). chosen o acc) (first-impure R f (R .size) h .0)
 
   module _ (i : ℕ) (below : (j : ℕ) → j < i → isPure R j (f j) ≡ false) (inside : i < R .size) (here : isPure R i (f i) ≡ true) where
     next-pure : next R acc f ≡ cond (elem (idOf (shown R (f i))) (ids acc)) again (take (shown R (f i)))
     unfolding next
-    next-pure = ap (λ (o : Option Item). chosen o acc) (first-pure R f (R .size) i below inside here)
+    next-pure = ap (λ (o : Option Item). chosen o acc) (first-pure R f (R .size) i below inside here .0)
 
     pub next-fresh : elem (idOf (shown R (f i))) (ids acc) ≡ false → next R acc f ≡ take (shown R (f i))
     next-fresh e = next-pure ∙ ap (λ (t : Bool). cond t again (take (shown R (f i)))) e
@@ -202,34 +224,55 @@ listed-sides a (ours b ∷ l) =
     ap (λ (t : Bool). eqb a b || t) (listed-sides a l) ∙ sym (or-assoc (eqb a b) (elem a (oursOf l)) (elem a (theirsOf l)))
 listed-sides a (theirs b ∷ l) = ap (λ (t : Bool). eqb a b || t) (listed-sides a l) ∙ or-swap (elem a (oursOf l)) (eqb a b) (elem a (theirsOf l))
 
--- ---- the invariant of a loop that peels: k more peels may be made
+-- ---- the invariant of a loop that peels: k more peels may be made, and looks have gone over l buckets
 
 module _ (R : Rule) (f₀ : ℕ → Bucket) where
-  abbrev pub Inv : ℕ → List Item → (ℕ → Bucket) → Type 0
-  Inv k acc f = reading R f₀ ≡ run R k (next R acc f) acc f
+  -- the steps to come, by what comes next
+  abbrev From : ℕ → Next → List Item → (ℕ → Bucket) → ℕ → Type 0
+  From k y acc f l = (reading R f₀ ≡ run R k y acc f) × (looked R f₀ ≡ l + looking R k y acc f)
 
-  pub inv-start : Inv (R .size) [] f₀
-  unfolding reading
-  inv-start = refl
+  abbrev pub Inv : ℕ → List Item → (ℕ → Bucket) → ℕ → Type 0
+  Inv k acc f l = From k (next R acc f) acc f l
 
-  pub inv-take : (k : ℕ) (acc : List Item) (f : ℕ → Bucket) (x : Item) → Inv (suc k) acc f → next R acc f ≡ take x → Inv k (x ∷ acc) (remove R x f)
-  unfolding run
-  inv-take k acc f x i e = i ∙ ap (λ (n : Next). run R (suc k) n acc f) e
+  -- how it ended
+  abbrev pub Ended : Bool → List Item → (ℕ → Bucket) → ℕ → Type 0
+  Ended fine acc f l = (reading R f₀ ≡ ended fine acc f) × (looked R f₀ ≡ l)
 
-  pub inv-nothing : (k : ℕ) (acc : List Item) (f : ℕ → Bucket) → Inv k acc f → next R acc f ≡ nothing → reading R f₀ ≡ ended true acc f
-  unfolding run
-  inv-nothing zero acc f i e = i ∙ ap (λ (n : Next). run R zero n acc f) e
-  inv-nothing (suc k) acc f i e = i ∙ ap (λ (n : Next). run R (suc k) n acc f) e
+  abbrev one : (ℕ → Bucket) → ℕ
+  one f = reach (looks R f) 0 (R .size)
 
-  pub inv-again : (k : ℕ) (acc : List Item) (f : ℕ → Bucket) → Inv k acc f → next R acc f ≡ again → reading R f₀ ≡ ended false acc f
-  unfolding run
-  inv-again zero acc f i e = i ∙ ap (λ (n : Next). run R zero n acc f) e
-  inv-again (suc k) acc f i e = i ∙ ap (λ (n : Next). run R (suc k) n acc f) e
+  pub inv-start : Inv (R .size) [] f₀ 0
+  unfolding reading looked
+  inv-start = (refl, omega arith)
 
-  -- one more peel than there are buckets
-  pub inv-full : (acc : List Item) (f : ℕ → Bucket) (x : Item) → Inv 0 acc f → next R acc f ≡ take x → reading R f₀ ≡ ended false acc f
-  unfolding run
-  inv-full acc f x i e = i ∙ ap (λ (n : Next). run R zero n acc f) e
+  module _ (acc : List Item) (f : ℕ → Bucket) (l : ℕ) where
+    leads : (k : ℕ) (y : Next) → Inv k acc f l → next R acc f ≡ y → From k y acc f l
+    leads k y i e = subst (λ (z : Next). From k z acc f l) e i
+
+    pub inv-take : (k : ℕ) (x : Item) → Inv (suc k) acc f l → next R acc f ≡ take x → Inv k (x ∷ acc) (remove R x f) (l + one f)
+    unfolding run looking
+    inv-take k x i e = let r = leads (suc k) (take x) i e in (r .0, omega (arith, r .1))
+
+    pub inv-nothing : (k : ℕ) → Inv k acc f l → next R acc f ≡ nothing → Ended true acc f (l + one f)
+    unfolding run looking
+    inv-nothing zero i e = leads zero nothing i e
+    inv-nothing (suc k) i e = leads (suc k) nothing i e
+
+    pub inv-again : (k : ℕ) → Inv k acc f l → next R acc f ≡ again → Ended false acc f (l + one f)
+    unfolding run looking
+    inv-again zero i e = leads zero again i e
+    inv-again (suc k) i e = leads (suc k) again i e
+
+    -- one more peel than there are buckets
+    pub inv-full : (x : Item) → Inv 0 acc f l → next R acc f ≡ take x → Ended false acc f (l + one f)
+    unfolding run looking
+    inv-full x i e = leads zero (take x) i e
+
+-- no bucket looks pure
+pub impure-reading : (R : Rule) (f : ℕ → Bucket) → ((i : ℕ) → i < R .size → isPure R i (f i) ≡ false) → Ended R f true [] f (R .size)
+impure-reading R f h =
+    let r = inv-nothing R f [] f 0 (R .size) (inv-start R f) (next-none R [] f h) in
+    (r .0, omega (arith, r .1, first-impure R f (R .size) h .1))
 
 -- ---- a reading goes by the buckets below the size alone
 
@@ -242,10 +285,12 @@ module _ (R : Rule) where
   abbrev pub Same : (ℕ → Bucket) → (ℕ → Bucket) → Type 0
   Same f g = (i : ℕ) → i < R .size → f i ≡ g i
 
+  look-cong : (f g : ℕ → Bucket) → Same f g → Finds (looks R f) 0 (R .size) (first (looks R g) 0 (R .size)) (reach (looks R g) 0 (R .size))
+  look-cong f g s = first-cong (looks R f) (looks R g) 0 (R .size) (λ i l h. ap (look R i) (s i (omega arith)))
+
   pub next-cong : (acc : List Item) (f g : ℕ → Bucket) → Same f g → next R acc f ≡ next R acc g
   unfolding next
-  next-cong acc f g s =
-      ap (λ (o : Option Item). chosen o acc) (first-cong (looks R f) (looks R g) 0 (R .size) (λ i l h. ap (look R i) (s i (omega arith))))
+  next-cong acc f g s = ap (λ (o : Option Item). chosen o acc) (look-cong f g s .0)
 
   pub remove-cong : (x : Item) (f g : ℕ → Bucket) → Same f g → Same (remove R x f) (remove R x g)
   unfolding remove
@@ -270,6 +315,20 @@ module _ (R : Rule) where
   pub reading-cong : (f g : ℕ → Bucket) → Same f g → Alike (reading R f) (reading R g)
   unfolding reading
   reading-cong f g s = rw (next-cong [] f g s) (run-cong (R .size) (next R [] g) [] f g s)
+
+  looking-cong : (k : ℕ) (n : Next) (acc : List Item) (f g : ℕ → Bucket) → Same f g → looking R k n acc f ≡ looking R k n acc g
+  unfolding looking
+  looking-cong zero n acc f g s = look-cong f g s .1
+  looking-cong (suc k) nothing acc f g s = look-cong f g s .1
+  looking-cong (suc k) again acc f g s = look-cong f g s .1
+  looking-cong (suc k) (take x) acc f g s =
+      rw (next-cong (x ∷ acc) (remove R x f) (remove R x g) (remove-cong x f g s))
+      (ap₂ _+_ (look-cong f g s .1)
+      (looking-cong k (next R (x ∷ acc) (remove R x g)) (x ∷ acc) (remove R x f) (remove R x g) (remove-cong x f g s)))
+
+  pub looked-cong : (f g : ℕ → Bucket) → Same f g → looked R f ≡ looked R g
+  unfolding looked
+  looked-cong f g s = rw (next-cong [] f g s) (looking-cong (R .size) (next R [] g) [] f g s)
 
   -- ---- at most as many items are listed as peels are made
 

@@ -17,7 +17,7 @@ use Rattle.bucket.specs.Salt.{unsalted}
 use Rattle.bucket.proofs.ColumnLaws.{SameLengths}
 use Rattle.filter.specs.Calls.{filled}
 use Rattle.filter.specs.Filter.{Item, idOf, ids, Rule, rule}
-use Rattle.filter.specs.Peeling.{sided, again, take, Outcome, ended, next, reading, remove, isPure}
+use Rattle.filter.specs.Peeling.{sided, reach, again, take, Outcome, next, reading, looked, remove, isPure}
 use Rattle.filter.specs.Marks.{Marks, Least}
 use Rattle.filter.specs.Repeats.{Chains, Enrolled, upto}
 use Rattle.filter.specs.Steps.{Wide, Small, Sound, spread, shows, Listed, Peels}
@@ -26,7 +26,11 @@ use Rattle.filter.proofs.SpreadLaws.{small-more, small-spread}
 use Rattle.filter.proofs.MarkLaws.{marks-empty}
 use Rattle.filter.proofs.RepeatLaws.{chains-again}
 use Rattle.filter.proofs.PeelLaws.{
+  looks,
+  first-pure,
+  first-impure,
   Inv,
+  Ended,
   inv-start,
   inv-take,
   inv-nothing,
@@ -41,6 +45,7 @@ use Rattle.filter.proofs.PeelLaws.{
   least-pure,
   least-below,
 }
+use Rattle.filter.proofs.LookLaws.{looked-most, most-of-all}
 use Rattle.filter.proofs.ShowLaws.{shows-salt}
 use Rattle.filter.proofs.ListedLaws.{listed-nothing, listed-count, ours-length, theirs-length}
 use Rattle.filter.proofs.TakingLaws.{abs-neg}
@@ -67,6 +72,7 @@ pub record State : Type 0 where
   pub made : ℕ
   pub a : ℕ
   pub t : ℕ
+  pub looked : ℕ
 
 abbrev pub ruleOf : Input → Rule
 ruleOf n = rule (n .k) (n .size) (n .salt)
@@ -75,9 +81,12 @@ ruleOf n = rule (n .k) (n .size) (n .salt)
 abbrev pub pureIn : Input → Columns → ℕ → Bool
 pureIn n c = shows (rule (n .k) (n .size) 0) (view c)
 
-abbrev pub Ends : Input → State → Bool → Type 0
-Ends n g fine =
+-- what is promised of an end; l buckets were looked at
+abbrev pub Ends : Input → State → Bool → ℕ → Type 0
+Ends n g fine l =
     Peels (n .size) (reading (ruleOf n) (view (n .columns))) (n .columns) (n .ours) (n .theirs) fine (g .columns) (g .ours) (g .theirs) (g .a) (g .t)
+    × Chains 0 (g .heads) (g .links) (g .seen)
+    × (l ≡ looked (ruleOf n) (view (n .columns)))
 
 pub record Fit (n : Input) : Type 0 where
   pub sound : Sound (n .size) (n .k) (n .salt)
@@ -96,7 +105,7 @@ pub record Peeling (n : Input) (g : State) : Type 0 where
   pub chains : Chains (g .made) (g .heads) (g .links) (g .seen)
   pub noted : ids acc ≡ upto (g .seen) (g .made)
   pub listed : Listed (n .ours) (n .theirs) acc (g .ours) (g .theirs) (g .a) (g .t)
-  pub inv : Inv (ruleOf n) (view (n .columns)) (n .size - g .made) acc (view (g .columns))
+  pub inv : Inv (ruleOf n) (view (n .columns)) (n .size - g .made) acc (view (g .columns)) (g .looked)
   pub kept : g .columns ≡ filled (n .size) (view (g .columns)) (n .columns)
 
 -- the lowest bucket that looks pure, its parts, and the ID that it shows
@@ -127,6 +136,7 @@ begun n bits heads links seen top =
       made = 0;
       a = 0;
       t = 0;
+      looked = 0;
     }
 
 pub peeling-start : (n : Input) (bits heads links seen : List ℕ) (top : ℕ) → Fit n → Chains 0 heads links seen
@@ -143,7 +153,7 @@ peeling-start n bits heads links seen top f c m = record {
   chains = c;
   noted = refl;
   listed = listed-nothing (n .ours) (n .theirs);
-  inv = subst (λ (j : ℕ). Inv (ruleOf n) (view (n .columns)) j [] (view (n .columns))) (sym (sub-zero (n .size)))
+  inv = subst (λ (j : ℕ). Inv (ruleOf n) (view (n .columns)) j [] (view (n .columns)) 0) (sym (sub-zero (n .size)))
       (inv-start (ruleOf n) (view (n .columns)));
   kept = sym (filled-view (n .size) (n .columns) (f .wide));
 }
@@ -176,30 +186,47 @@ module _ (n : Input) (g : State) (p : Peeling n g) where
   peeling-theirs =
       theirs-length (n .ours) (n .theirs) (p .acc) (g .ours) (g .theirs) (g .a) (g .t) (p .listed) (omega (arith, p .many, p .few, p .fit .theirs))
 
-  ends : (fine : Bool) → reading (ruleOf n) (view (n .columns)) ≡ ended fine (p .acc) (view (g .columns)) → Ends n g fine
-  ends fine e = record {
-    fine-is = ap (λ (q : Outcome). q .fine) (sym e);
-    rest-is = λ _. p .kept ∙ ap (λ (q : Outcome). filled (n .size) (q .rest) (n .columns)) (sym e);
-    listed-is = λ _. subst (λ (q : Outcome). Listed (n .ours) (n .theirs) (q .listed) (g .ours) (g .theirs) (g .a) (g .t)) (sym e) (p .listed);
-    some = p .acc;
-    listed-some = p .listed;
-    few = omega (arith, p .many, p .few);
-    rest = view (g .columns);
-    kept = p .kept;
-  }
+  -- as the whole reading does
+  pub peeling-looked : g .looked ≤ 16781312
+  peeling-looked =
+      omega (arith, p .inv .1, looked-most (ruleOf n) (view (n .columns)), most-of-all (n .size) (p .fit .sound .most))
+
+  -- how far the look of this turn goes
+  abbrev one : ℕ
+  one = reach (looks (ruleOf n) (view (g .columns))) 0 (n .size)
+
+  ends : (fine : Bool) (l : ℕ) → l ≡ one → Ended (ruleOf n) (view (n .columns)) fine (p .acc) (view (g .columns)) (g .looked + one)
+      → Ends n g fine (g .looked + l)
+  ends fine l o (e, m) = (
+    record {
+      fine-is = ap (λ (q : Outcome). q .fine) (sym e);
+      rest-is = λ _. p .kept ∙ ap (λ (q : Outcome). filled (n .size) (q .rest) (n .columns)) (sym e);
+      listed-is = λ _. subst (λ (q : Outcome). Listed (n .ours) (n .theirs) (q .listed) (g .ours) (g .theirs) (g .a) (g .t)) (sym e) (p .listed);
+      some = p .acc;
+      listed-some = p .listed;
+      few = omega (arith, p .many, p .few);
+      rest = view (g .columns);
+      kept = p .kept;
+    },
+    peeling-again,
+    ap (λ (j : ℕ). g .looked + j) o ∙ sym m,
+  )
 
   -- ---- no bucket looks pure
 
-  pub peeling-done : g .top ≡ 0 → Ends n g true
+  pub peeling-done : g .top ≡ 0 → Ends n g true (g .looked + n .size)
   peeling-done z =
-      ends true
-      (inv-nothing (ruleOf n) (view (n .columns)) (n .size - g .made) (p .acc) (view (g .columns)) (p .inv)
-      (next-none (ruleOf n) (p .acc) (view (g .columns)) (shows-none (ruleOf n) (view (g .columns)) none)))
+      ends true (n .size) (omega (arith, first-impure (ruleOf n) (view (g .columns)) (n .size) impure .1))
+      (inv-nothing (ruleOf n) (view (n .columns)) (p .acc) (view (g .columns)) (g .looked) (n .size - g .made) (p .inv)
+      (next-none (ruleOf n) (p .acc) (view (g .columns)) impure))
     where
       none : (b : ℕ) → b < n .size → shows (ruleOf n) (view (g .columns)) b ≡ false
       none b h =
           ap (λ (s : ℕ → Bool). s b) (shows-salt (n .k) (n .size) (n .salt) 0 (view (g .columns)))
           ∙ marks-empty (pureIn n (g .columns)) (g .bits) (g .top) (p .marks) z b (omega (arith, h, p .fit .sound .most))
+
+      impure : (b : ℕ) → b < n .size → isPure (ruleOf n) b (view (g .columns) b) ≡ false
+      impure = shows-none (ruleOf n) (view (g .columns)) none
 
   -- ---- bucket b does
 
@@ -209,6 +236,12 @@ module _ (n : Input) (g : State) (p : Peeling n g) where
 
     pub least-in : b < n .size
     least-in = least-inside (ruleOf n) (view (g .columns)) b least
+
+    -- as far as the look of this turn goes
+    least-reach : b + 1 ≡ one
+    least-reach =
+        sym (first-pure (ruleOf n) (view (g .columns)) (n .size) b (least-below (ruleOf n) (view (g .columns)) b least) least-in
+        (least-pure (ruleOf n) (view (g .columns)) b least) .1)
 
   module _ (f : Found n g) where
     first : Least (shows (ruleOf n) (view (g .columns))) (f .b)
@@ -245,31 +278,32 @@ module _ (n : Input) (g : State) (p : Peeling n g) where
 
     -- its ID was listed before
     pub peeling-repeated : (r : Bool) (heads links seen : List ℕ) → Enrolled (g .made) (f .id) (g .seen) r heads links seen → r ≡ false
-        → Ends n g false
+        → Ends n (record { columns = g .columns; ours = g .ours; theirs = g .theirs; bits = g .bits; heads = heads; links = links; seen = seen; top = g .top; made = g .made; a = g .a; t = g .t; looked = g .looked }) false (g .looked + (f .b + 1))
     peeling-repeated r heads links seen d e =
-        ends false
-        (inv-again (ruleOf n) (view (n .columns)) (n .size - g .made) (p .acc) (view (g .columns)) (p .inv)
-        (repeats (not-false was-listed (sym (d .fresh) ∙ e))))
+        let m = ends false (f .b + 1) (least-reach (f .b) (f .lowest))
+            (inv-again (ruleOf n) (view (n .columns)) (p .acc) (view (g .columns)) (g .looked) (n .size - g .made) (p .inv)
+            (repeats (not-false was-listed (sym (d .fresh) ∙ e)))) in
+        (m .0, d .again, m .2)
 
     -- as many peels were made as there are buckets
-    pub peeling-full : g .made ≡ n .size → Ends n g false
-    peeling-full e = ends false (either was-listed refl)
+    pub peeling-full : g .made ≡ n .size → Ends n g false (g .looked + (f .b + 1))
+    peeling-full e = ends false (f .b + 1) (least-reach (f .b) (f .lowest)) (either was-listed refl)
       where
-        last : Inv (ruleOf n) (view (n .columns)) 0 (p .acc) (view (g .columns))
-        last = subst (λ (j : ℕ). Inv (ruleOf n) (view (n .columns)) j (p .acc) (view (g .columns))) (omega (arith, e)) (p .inv)
+        last : Inv (ruleOf n) (view (n .columns)) 0 (p .acc) (view (g .columns)) (g .looked)
+        last = subst (λ (j : ℕ). Inv (ruleOf n) (view (n .columns)) j (p .acc) (view (g .columns)) (g .looked)) (omega (arith, e)) (p .inv)
 
-        either : (t : Bool) → was-listed ≡ t → reading (ruleOf n) (view (n .columns)) ≡ ended false (p .acc) (view (g .columns))
-        either true q = inv-again (ruleOf n) (view (n .columns)) 0 (p .acc) (view (g .columns)) last (repeats q)
-        either false q = inv-full (ruleOf n) (view (n .columns)) (p .acc) (view (g .columns)) (sided (f .z) (f .id)) last (takes q)
+        either : (t : Bool) → was-listed ≡ t → Ended (ruleOf n) (view (n .columns)) false (p .acc) (view (g .columns)) (g .looked + one)
+        either true q = inv-again (ruleOf n) (view (n .columns)) (p .acc) (view (g .columns)) (g .looked) 0 last (repeats q)
+        either false q = inv-full (ruleOf n) (view (n .columns)) (p .acc) (view (g .columns)) (g .looked) (sided (f .z) (f .id)) last (takes q)
 
     -- it is peeled
-    pub peeling-next : (g′ : State) (r : Bool) → (g .made ≡ n .size → ⊥) → g′ .made ≡ g .made + 1
+    pub peeling-next : (g′ : State) (r : Bool) → (g .made ≡ n .size → ⊥) → g′ .made ≡ g .made + 1 → g′ .looked ≡ g .looked + (f .b + 1)
         → Enrolled (g .made) (f .id) (g .seen) r (g′ .heads) (g′ .links) (g′ .seen) → r ≡ true
         → g′ .columns ≡ filled (n .size) (spread (places (n .k) (n .size) (f .h)) (neg (bucket (f .x) (f .h) (f .z))) (view (g .columns))) (g .columns)
         → Marks (pureIn n (g′ .columns)) (g′ .bits) (g′ .top)
         → Listed (n .ours) (n .theirs) (sided (f .z) (f .id) ∷ p .acc) (g′ .ours) (g′ .theirs) (g′ .a) (g′ .t)
         → Peeling n g′
-    peeling-next g′ r ne one d e taken marks listed = record {
+    peeling-next g′ r ne one far d e taken marks listed = record {
       fit = p .fit;
       acc = sided (f .z) (f .id) ∷ p .acc;
       many = omega (arith, p .many, one);
@@ -282,11 +316,12 @@ module _ (n : Input) (g : State) (p : Peeling n g) where
       noted = ap₂ {B = List ℕ} (λ (v : ℕ) (q : List ℕ). v ∷ q) (id-sided (f .z) (f .id)) (p .noted)
           ∙ sym (d .now-last e) ∙ ap (upto (g′ .seen)) (sym one);
       listed = listed;
-      inv = subst (λ (j : ℕ). Inv (ruleOf n) (view (n .columns)) j (sided (f .z) (f .id) ∷ p .acc) (view (g′ .columns))) left
-          (subst (Inv (ruleOf n) (view (n .columns)) (n .size - g .made - 1) (sided (f .z) (f .id) ∷ p .acc)) (sym (fun-ext gone))
-          (inv-take (ruleOf n) (view (n .columns)) (n .size - g .made - 1) (p .acc) (view (g .columns)) (sided (f .z) (f .id))
-          (subst (λ (j : ℕ). Inv (ruleOf n) (view (n .columns)) j (p .acc) (view (g .columns))) some (p .inv))
-          (takes (not-true was-listed (sym (d .fresh) ∙ e)))));
+      inv = subst (λ (j : ℕ). Inv (ruleOf n) (view (n .columns)) j (sided (f .z) (f .id) ∷ p .acc) (view (g′ .columns)) (g′ .looked)) left
+          (subst (λ (h : ℕ → Bucket). Inv (ruleOf n) (view (n .columns)) (n .size - g .made - 1) (sided (f .z) (f .id) ∷ p .acc) h (g′ .looked)) (sym (fun-ext gone))
+          (subst (Inv (ruleOf n) (view (n .columns)) (n .size - g .made - 1) (sided (f .z) (f .id) ∷ p .acc) (remove (ruleOf n) (sided (f .z) (f .id)) (view (g .columns)))) looks-on
+          (inv-take (ruleOf n) (view (n .columns)) (p .acc) (view (g .columns)) (g .looked) (n .size - g .made - 1) (sided (f .z) (f .id))
+          (subst (λ (j : ℕ). Inv (ruleOf n) (view (n .columns)) j (p .acc) (view (g .columns)) (g .looked)) some (p .inv))
+          (takes (not-true was-listed (sym (d .fresh) ∙ e))))));
       kept = sym (filled-view (n .size) (g′ .columns) wide′)
           ∙ ap (filled (n .size) (view (g′ .columns))) (taken ∙ ap (filled (n .size) out) (p .kept))
           ∙ filled-filled (n .size) out (view (g′ .columns)) (filled (n .size) (view (g .columns)) (n .columns))
@@ -296,6 +331,9 @@ module _ (n : Input) (g : State) (p : Peeling n g) where
       where
         out : ℕ → Bucket
         out = spread (places (n .k) (n .size) (f .h)) (neg (bucket (f .x) (f .h) (f .z))) (view (g .columns))
+
+        looks-on : g .looked + reach (looks (ruleOf n) (view (g .columns))) 0 (n .size) ≡ g′ .looked
+        looks-on = omega (arith, far, least-reach (f .b) (f .lowest))
 
         more : g .made < n .size
         more = omega (arith, p .few, ne)

@@ -2,7 +2,7 @@
 --
 --   refusalNumber r     the number of a refusal (document 01, "Refusal numbers"), 0 for none
 --   firstOf ts          the refusal of the first test of ts that does not hold
---   answerOf r          a reading's answer as numbers: refusal, complete, and the lengths of the two lists
+--   answerOf r          a reading's answer as numbers: refusal, complete, the lengths of the two lists, and the buckets looked at
 --   estimateAnswer e    an estimate's answer as numbers: refusal, known, and the estimate
 --
 -- Assumes nothing.
@@ -38,17 +38,18 @@ abbrev pub firstOf : List (Refusal × Bool) → Refusal
 firstOf [] = None
 firstOf (t ∷ ts) = cond (t .1) (firstOf ts) (t .0)
 
--- a reading's answer: the refusal's number, 1 for complete, and how many IDs are listed as ours and as theirs
-abbrev pub answer : ℕ → ℕ → ℕ → ℕ → ReadAnswer
-answer n whole a b = record { refusal = n; complete = whole; ours = a; theirs = b }
+-- a reading's answer: the refusal's number, 1 for complete, how many IDs are listed as ours and as theirs, and how many buckets were looked at
+abbrev pub answer : ℕ → ℕ → ℕ → ℕ → ℕ → ReadAnswer
+answer n whole a b l = record { refusal = n; complete = whole; ours = a; theirs = b; looked = l }
 
+-- document 02, Req 11: "A reading refused with 6 returns its number too."
 abbrev pub answerOf : Reading → ReadAnswer
-answerOf (Complete a b) = answer (refusalNumber None) 1 a b
-answerOf (Stuck a b) = answer (refusalNumber None) 0 a b
-answerOf BadForm = answer (refusalNumber Form) 0 0 0
-answerOf BadRange = answer (refusalNumber Range) 0 0 0
-answerOf NoRoom = answer (refusalNumber Room) 0 0 0
-answerOf Untrue = answer (refusalNumber FalseReading) 0 0 0
+answerOf (Complete a b l) = answer (refusalNumber None) 1 a b l
+answerOf (Stuck a b l) = answer (refusalNumber None) 0 a b l
+answerOf BadForm = answer (refusalNumber Form) 0 0 0 0
+answerOf BadRange = answer (refusalNumber Range) 0 0 0 0
+answerOf NoRoom = answer (refusalNumber Room) 0 0 0 0
+answerOf (Untrue l) = answer (refusalNumber FalseReading) 0 0 0 l
 
 -- an estimate's answer: the refusal's number, 1 for known, and the estimate, 0 where it is unknown or refused
 abbrev pub estimate : ℕ → ℕ → ℕ → EstimateAnswer

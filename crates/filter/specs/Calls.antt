@@ -6,7 +6,7 @@
 --   filled n f c           the columns c with f in their first n buckets
 --   listedInto n l o       the list o with l at its start and zeros behind it up to n
 --   buildCall ..           the filter of a table in three lent columns
---   readCall ..            ours minus received, peeled
+--   readBy, readCall       ours minus received, peeled
 --   clearCall ..           columns and lists made zero, as a false reading leaves them
 --
 -- Assumes nothing.
@@ -27,7 +27,7 @@ use Rattle.filter.specs.declared.answers.Verdict.the-variants.{Complete,
 use Rattle.filter.specs.Answers.{refusalNumber, firstOf, answer}
 use Rattle.filter.specs.Table.{idsOf, isTable}
 use Rattle.filter.specs.Filter.{filterRule, oursOf, theirsOf, filterOf, difference}
-use Rattle.filter.specs.Peeling.{Outcome, reading, verdict}
+use Rattle.filter.specs.Peeling.{Outcome, reading, looked, verdict}
 
 unfoldable pub inRange : ℕ → ℕ → Bool
 inRange size salt = leb 37 size && (leb size 4096 && ltb salt 64)
@@ -89,42 +89,51 @@ pub record Read : Type 0 where
 abbrev pub answered : ReadAnswer → Columns → List ℕ → List ℕ → Read
 answered a c o th = record { answer = a; columns = c; ours = o; theirs = th }
 
--- a refusal, and what it leaves
+-- a refusal before anything is read, and what it leaves
 abbrev pub unread : ℕ → Columns → List ℕ → List ℕ → Read
-unread n c o th = answered (answer n 0 0 0) c o th
+unread n c o th = answered (answer n 0 0 0 0) c o th
 
 -- "Stuck and complete leave the remaining difference in the columns, the lists in peel order, and zero in the lists after their lengths."
-abbrev pub readAs : ℕ → ℕ → Outcome → Columns → List ℕ → List ℕ → Read
-readAs whole size r c o th =
+abbrev pub readAs : ℕ → ℕ → Outcome → ℕ → Columns → List ℕ → List ℕ → Read
+readAs whole size r l c o th =
     answered
-    (answer 0 whole (length (oursOf (r .listed))) (length (theirsOf (r .listed))))
+    (answer 0 whole (length (oursOf (r .listed))) (length (theirsOf (r .listed))) l)
     (filled size (r .rest) c)
     (listedInto size (reverse (oursOf (r .listed))) o)
     (listedInto size (reverse (theirsOf (r .listed))) th)
 
 -- refusal 6: "columns and lists all zero", in the first size places
-abbrev pub readFalse : ℕ → Columns → List ℕ → List ℕ → Read
-readFalse size c o th =
-    unread (refusalNumber FalseReading) (filled size (λ i. 𝟎) c) (listedInto size [] o) (listedInto size [] th)
+abbrev pub readFalse : ℕ → ℕ → Columns → List ℕ → List ℕ → Read
+readFalse size l c o th =
+    answered (answer (refusalNumber FalseReading) 0 0 0 l) (filled size (λ i. 𝟎) c) (listedInto size [] o) (listedInto size [] th)
 
-unfoldable pub readWith : Verdict → ℕ → Outcome → Columns → List ℕ → List ℕ → Read
-readWith Complete size r c o th = readAs 1 size r c o th
-readWith Stuck size r c o th = readAs 0 size r c o th
-readWith False size r c o th = readFalse size c o th
+-- by the verdict; l buckets were looked at
+unfoldable pub readWith : Verdict → ℕ → Outcome → ℕ → Columns → List ℕ → List ℕ → Read
+readWith Complete size r l c o th = readAs 1 size r l c o th
+readWith Stuck size r l c o th = readAs 0 size r l c o th
+readWith False size r l c o th = readFalse size l c o th
 
--- the peeling of ours minus received
-abbrev pub outcomeOf : (ℕ → ℕ) → ℕ → ℕ → List ℕ → Columns → Outcome
-outcomeOf derive size salt t c = reading (filterRule size salt) (difference (filterRule size salt) (idsOf derive t) (view c))
+-- ours minus received, by the IDs of our table: peeled, judged, and the buckets looked at
+abbrev pub subtracted : List ℕ → ℕ → ℕ → Columns → ℕ → Bucket
+subtracted ids size salt c = difference (filterRule size salt) ids (view c)
 
-abbrev pub verdictOf : (ℕ → ℕ) → ℕ → ℕ → List ℕ → Columns → Verdict
-verdictOf derive size salt t c = verdict (filterRule size salt) (idsOf derive t) (outcomeOf derive size salt t c)
+abbrev pub outcomeOf : List ℕ → ℕ → ℕ → Columns → Outcome
+outcomeOf ids size salt c = reading (filterRule size salt) (subtracted ids size salt c)
+
+abbrev pub verdictOf : List ℕ → ℕ → ℕ → Columns → Verdict
+verdictOf ids size salt c = verdict (filterRule size salt) ids (outcomeOf ids size salt c)
+
+abbrev pub lookedOf : List ℕ → ℕ → ℕ → Columns → ℕ
+lookedOf ids size salt c = looked (filterRule size salt) (subtracted ids size salt c)
+
+abbrev pub readBy : List ℕ → ℕ → ℕ → Columns → List ℕ → List ℕ → Read
+readBy ids size salt c o th =
+    readWith (verdictOf ids size salt c) size (outcomeOf ids size salt c) (lookedOf ids size salt c) c o th
 
 unfoldable pub readCall : (ℕ → ℕ) → ℕ → ℕ → List ℕ → Columns → List ℕ → List ℕ → Read
 readCall derive size salt t c o th =
     let n = refusalNumber (readRefusal derive size salt t c o th) in
-    cond (eqb n 0)
-    (readWith (verdictOf derive size salt t c) size (outcomeOf derive size salt t c) c o th)
-    (unread n c o th)
+    cond (eqb n 0) (readBy (idsOf derive t) size salt c o th) (unread n c o th)
 
 -- "columns and lists all zero", in the first size places; 2 where one is shorter
 unfoldable pub clearCall : ℕ → Columns → List ℕ → List ℕ → Read

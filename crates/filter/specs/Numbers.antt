@@ -32,7 +32,7 @@ use Rattle.filter.specs.Answers.{refusalNumber, answer, answerOf, estima
 use Rattle.filter.specs.Lists.{ascending, distinct}
 use Rattle.filter.specs.Table.{hashesOf, firstEight, idsOf, isTable}
 use Rattle.filter.specs.Filter.{Item, ours, theirs, Rule, touches, cell, put, sumAt, filterOf, difference}
-use Rattle.filter.specs.Peeling.{first, allZero, Outcome, ended, agrees, isPure, look, remove, next, run, reading, verdict}
+use Rattle.filter.specs.Peeling.{first, reach, allZero, Outcome, ended, agrees, isPure, look, remove, next, run, reading, looking, looked, verdict}
 use Rattle.filter.specs.Calls.{inRange, isCount, allCounts, hasRoom, filled}
 use Rattle.filter.specs.Estimator.{
   estimatorRule,
@@ -56,9 +56,16 @@ given a = cond (eqb a 3) (2 ∷ 3 ∷ 4 ∷ []) (0 ∷ 1 ∷ 2 ∷ [])
 abbrev pub worked : Rule
 worked = record { size = 6; code = λ a. a; decode = λ a. a; places = given; check = λ a. a * 7 + 1 }
 
--- the reading of p, q and r against an empty filter
+-- a difference with an empty filter, and r put into bucket 2 alone
+abbrev pub against : List ℕ → ℕ → Bucket
+against t = difference worked t (filterOf worked [])
+
+abbrev pub onlyAt2 : ℕ → Bucket
+onlyAt2 i = cond (eqb i 2) (bucket 3 22 (pos 1)) 𝟎
+
+-- the reading of p, q and r
 abbrev pub workedReading : Outcome
-workedReading = reading worked (difference worked (1 ∷ 2 ∷ 3 ∷ []) (filterOf worked []))
+workedReading = reading worked (against (1 ∷ 2 ∷ 3 ∷ []))
 
 -- a stratum's reading that is complete with some items listed, one that is stuck, and one that is false though all is zero
 abbrev pub whole : List Item → Outcome
@@ -104,9 +111,16 @@ pub numbers :
     × (workedReading .rest 2 ≡ sumAt worked (ours 1 ∷ ours 2 ∷ []) 2)
     × (workedReading .rest 3 ≡ 𝟎)
     × (workedReading .rest 4 ≡ 𝟎)
+    -- document 02, Req 11: r is found at bucket 3, and a last look goes over all six; r alone is found at bucket 2, and the columns are zero at the
+    -- last look; equal tables have that look alone; and where only bucket 2 has r, the look that finds it again, at bucket 3, is the last
+    × (map (looked worked) (against (1 ∷ 2 ∷ 3 ∷ []) ∷ against (3 ∷ []) ∷ against [] ∷ onlyAt2 ∷ []) ≡ 10 ∷ 9 ∷ 6 ∷ 7 ∷ [])
+    -- one peel too many: its look counts, and is the last
+    × (looking worked 0 (next worked [] (against (3 ∷ []))) [] (against (3 ∷ [])) ≡ 3)
 unfolding salted rot packed groups joined widthOf stratumOf trailingZeros leadingZeros _⊕_ neg 𝟎 reading run next first look isPure difference filterOf
-    sumAt put touches cell remove elem verdict allZero isZero agrees estimateOf sampled
+    sumAt put touches cell remove elem verdict allZero isZero agrees estimateOf sampled looked looking reach
 numbers = (
+  refl,
+  refl,
   refl,
   refl,
   refl,
@@ -162,9 +176,10 @@ pub constants :
     × (refusalNumber Swaps ≡ 9)
     -- "slips held plus wanted .. would pass 4,096"
     × (refusalNumber Limit ≡ 10)
-    -- a reading's answer: complete is 1 and stuck 0, both with their lists' lengths and no refusal; what is refused has neither
-    × (map answerOf (Complete 5 7 ∷ Stuck 5 7 ∷ []) ≡ answer 0 1 5 7 ∷ answer 0 0 5 7 ∷ [])
-    × (map answerOf (BadForm ∷ BadRange ∷ NoRoom ∷ Untrue ∷ []) ≡ answer 1 0 0 0 ∷ answer 3 0 0 0 ∷ answer 2 0 0 0 ∷ answer 6 0 0 0 ∷ [])
+    -- a reading's answer: complete is 1 and stuck 0, both with their lists' lengths and no refusal; what is refused has neither, and of them 6
+    -- alone has the number of buckets looked at
+    × (map answerOf (Complete 5 7 9 ∷ Stuck 5 7 9 ∷ Untrue 9 ∷ []) ≡ answer 0 1 5 7 9 ∷ answer 0 0 5 7 9 ∷ answer 6 0 0 0 9 ∷ [])
+    × (map answerOf (BadForm ∷ BadRange ∷ NoRoom ∷ []) ≡ answer 1 0 0 0 0 ∷ answer 3 0 0 0 0 ∷ answer 2 0 0 0 0 ∷ [])
     -- an estimate's: known is 1 and unknown 0; what is unknown or refused has no number
     × (map estimateAnswer (Made (Known 48) ∷ Made (Known 0) ∷ Made Unknown ∷ []) ≡ estimate 0 1 48 ∷ estimate 0 1 0 ∷ estimate 0 0 0 ∷ [])
     × (map estimateAnswer (NotCounts ∷ TooShort ∷ []) ≡ estimate 1 0 0 ∷ estimate 2 0 0 ∷ [])

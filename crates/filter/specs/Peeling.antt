@@ -3,19 +3,20 @@
 --   isPure R i b       bucket i, being b, looks pure
 --   look R i b         the item that it then shows
 --   first g i n        the first answer of g from bucket i on, among n: one look over the buckets
+--   reach g i n        how many buckets that look goes over
 --   next R acc f       what a look from bucket 0 leads to: nothing is pure, an ID would be listed again, or an item is taken
 --   remove R x f       the buckets with an item taken out of all its places
 --   run, reading       the peeling: its items (last first), what remains, and whether it ended in order
+--   looking, looked    the buckets that its looks go over, in all
 --   agrees t l         each ID listed as ours is in the table, and none listed as theirs is
 --   verdict R t r      complete, stuck or false, by document 01
 --
--- Each look begins at bucket 0, so the number of buckets looked at can be read off `first`.
--- Laws (proofs/PeelLaws, SoundLaws, ExactLaws): demand 3 stands in proofs/Demand3.
+-- Laws (proofs/PeelLaws, SoundLaws, ExactLaws): demand 3 stands in proofs/Demand3, the bound of `looked` in proofs/LookLaws.
 -- Assumes nothing.
 use mathlib.Core.Bool.{Bool, true, false, not, _&&_, cond}
 use mathlib.Core.List.{List, [], _∷_}
 use mathlib.Core.Option.{Option, none, some}
-use Prim.Native.Nat.{ℕ, zero, suc}
+use Prim.Native.Nat.{ℕ, zero, suc, _+_}
 use lib.Dec.{eqb}
 use lib.IntN.{ℤ, pos, negsuc}
 use Rattle.bucket.specs.Bucket.{Bucket, _⊖_, isOne, isZero}
@@ -36,6 +37,15 @@ orElse none o = o
 unfoldable pub first : (ℕ → Option Item) → ℕ → ℕ → Option Item
 first g i zero = none
 first g i (suc n) = orElse (g i) (first g (suc i) n)
+
+abbrev pub upTo : Option Item → ℕ → ℕ → ℕ
+upTo (some x) here later = here
+upTo none here later = later
+
+-- document 02, Req 11: "for each look from bucket 0, the position of the pure bucket found plus one, or the size if none is found"
+unfoldable pub reach : (ℕ → Option Item) → ℕ → ℕ → ℕ
+reach g i zero = i
+reach g i (suc n) = upTo (g i) (i + 1) (reach g (suc i) n)
 
 unfoldable pub allZero : (ℕ → Bucket) → ℕ → Bool
 allZero f zero = true
@@ -108,6 +118,17 @@ module _ (R : Rule) where
 
   unfoldable pub reading : (ℕ → Bucket) → Outcome
   reading f = run (R .size) (next [] f) [] f
+
+  -- Req 11: "the number of buckets looked at", step by step as in `run`: each step comes of one look, whatever it leads to, so there is "a last
+  -- look made also where the columns are zero", and the look that finds a repeated ID or a peel too many is the last
+  unfoldable pub looking : ℕ → Next → List Item → (ℕ → Bucket) → ℕ
+  looking zero y acc f = reach (λ i. look i (f i)) 0 (R .size)
+  looking (suc n) nothing acc f = reach (λ i. look i (f i)) 0 (R .size)
+  looking (suc n) again acc f = reach (λ i. look i (f i)) 0 (R .size)
+  looking (suc n) (take x) acc f = reach (λ i. look i (f i)) 0 (R .size) + looking n (next (x ∷ acc) (remove x f)) (x ∷ acc) (remove x f)
+
+  unfoldable pub looked : (ℕ → Bucket) → ℕ
+  looked f = looking (R .size) (next [] f) [] f
 
   unfoldable pub verdict : List ℕ → Outcome → Verdict
   verdict t r = verdictBy (r .fine) (allZero (r .rest) (R .size)) (agrees t (r .listed))

@@ -38,10 +38,19 @@ pub enum Verdict {
     False,
 }
 
-// What a reading call answers: how the peeling ended, with the lengths of the two lists, or why it is refused.
+// What a reading call answers: how the peeling ended, with the lengths of the two lists, or why it is refused. Where something was read,
+// false or not, it has the number of buckets looked at, as if each look began at bucket 0 (document 02, Req 11).
 pub enum Reading {
-    Complete { ours: usize, theirs: usize },
-    Stuck { ours: usize, theirs: usize },
+    Complete {
+        ours: usize,
+        theirs: usize,
+        looked: usize,
+    },
+    Stuck {
+        ours: usize,
+        theirs: usize,
+        looked: usize,
+    },
     // the table is none, or a COUNT is out of range
     BadForm,
     // the size or the salt is out of range
@@ -49,16 +58,17 @@ pub enum Reading {
     // a column or list is too short
     NoRoom,
     // the reading is false
-    Untrue,
+    Untrue { looked: usize },
 }
 
-// The same in numbers: the refusal's, 1 for complete, and how many IDs are listed as ours and as theirs.
+// The same in numbers: the refusal's, 1 for complete, how many IDs are listed as ours and as theirs, and how many buckets were looked at.
 #[repr(C)]
 pub struct ReadAnswer {
     pub refusal: u32,
     pub complete: u32,
     pub ours: usize,
     pub theirs: usize,
+    pub looked: usize,
 }
 
 // How many IDs differ, or that nothing is known of it: "an answer of its own and never .. a number" (document 02, Req 02).
@@ -106,23 +116,38 @@ pub fn numbers(r: Reading) -> ReadAnswer
     ensures { λ n. ⌜ n ≡ answerOf r ⌝ }
 {
     match r {
-        Reading::Complete { ours, theirs } => answer_with(Refusal::None, 1, ours, theirs),
-        Reading::Stuck { ours, theirs } => answer_with(Refusal::None, 0, ours, theirs),
-        Reading::BadForm => answer_with(Refusal::Form, 0, 0, 0),
-        Reading::BadRange => answer_with(Refusal::Range, 0, 0, 0),
-        Reading::NoRoom => answer_with(Refusal::Room, 0, 0, 0),
-        Reading::Untrue => answer_with(Refusal::FalseReading, 0, 0, 0),
+        Reading::Complete {
+            ours,
+            theirs,
+            looked,
+        } => answer_with(Refusal::None, 1, ours, theirs, looked),
+        Reading::Stuck {
+            ours,
+            theirs,
+            looked,
+        } => answer_with(Refusal::None, 0, ours, theirs, looked),
+        Reading::BadForm => answer_with(Refusal::Form, 0, 0, 0, 0),
+        Reading::BadRange => answer_with(Refusal::Range, 0, 0, 0, 0),
+        Reading::NoRoom => answer_with(Refusal::Room, 0, 0, 0, 0),
+        Reading::Untrue { looked } => answer_with(Refusal::FalseReading, 0, 0, 0, looked),
     }
 }
 
-fn answer_with(why: Refusal, complete: u32, ours: usize, theirs: usize) -> ReadAnswer
-    ensures { λ n. ⌜ n ≡ answer (refusalNumber why) complete ours theirs ⌝ }
+fn answer_with(
+    why: Refusal,
+    complete: u32,
+    ours: usize,
+    theirs: usize,
+    looked: usize,
+) -> ReadAnswer
+    ensures { λ n. ⌜ n ≡ answer (refusalNumber why) complete ours theirs looked ⌝ }
 {
     ReadAnswer {
         refusal: refusal_number(why),
         complete: complete,
         ours: ours,
         theirs: theirs,
+        looked: looked,
     }
 }
 

@@ -11,17 +11,18 @@ ghost use Rattle.bucket.specs.Columns.{columns, view, place};
 ghost use Rattle.bucket.specs.Crc.{crcTables};
 ghost use Rattle.bucket.specs.Places.{places};
 ghost use Rattle.filter.specs.Filter.{Item, rule};
-ghost use Rattle.filter.specs.Peeling.{sided, reading};
+ghost use Rattle.filter.specs.Peeling.{sided, reading, looked};
 ghost use Rattle.filter.specs.Calls.{filled};
 ghost use Rattle.filter.specs.Marks.{Marks};
 ghost use Rattle.filter.specs.Repeats.{Chains};
 ghost use Rattle.filter.specs.Steps.{Wide, Small, Sound, spread, shows, Listed, Peels};
 
-// How a peeling ended: in order or not, and the lengths of the two lists.
+// How a peeling ended: in order or not, the lengths of the two lists, and how many buckets looks from bucket 0 would have gone over.
 pub(crate) struct Peeled {
     pub fine: bool,
     pub ours: usize,
     pub theirs: usize,
+    pub looked: usize,
 }
 
 // Peels the first size buckets, k places an element, and lists the IDs without their salt. The last three arrays are lent to find repeats
@@ -46,7 +47,8 @@ pub(crate) fn peel(
     ensures { λ r. ⌜ Peels size (reading (rule k size salt) (view (columns (now (ids .entry)) (now (hashes .entry)) (now (counts .entry)))))
         (columns (now (ids .entry)) (now (hashes .entry)) (now (counts .entry))) (now (ours .entry)) (now (theirs .entry)) (r .fine)
         (columns (now (ids .exit)) (now (hashes .exit)) (now (counts .exit))) (now (ours .exit)) (now (theirs .exit)) (r .ours) (r .theirs)
-        × Chains 0 (now (heads .exit)) (now (links .exit)) (now (seen .exit)) ⌝ }
+        × Chains 0 (now (heads .exit)) (now (links .exit)) (now (seen .exit))
+        × (r .looked ≡ looked (rule k size salt) (view (columns (now (ids .entry)) (now (hashes .entry)) (now (counts .entry))))) ⌝ }
 {
     let n = size as usize;
     let mut bits = [0u64; 64];
@@ -54,8 +56,10 @@ pub(crate) fn peel(
     let mut m: usize = 0;
     let mut a: usize = 0;
     let mut t: usize = 0;
+    let mut l: usize = 0;
     while top != 0 {
         let b = crate::marks::least(&bits, top);
+        l += b + 1;
         let x = ids[b];
         let h = hashes[b];
         let s = counts[b];
@@ -65,6 +69,7 @@ pub(crate) fn peel(
                 fine: false,
                 ours: a,
                 theirs: t,
+                looked: l,
             };
         }
         if crate::repeats::enroll(heads, links, seen, m, id) {
@@ -78,6 +83,7 @@ pub(crate) fn peel(
                 fine: false,
                 ours: a,
                 theirs: t,
+                looked: l,
             };
         }
     }
@@ -85,6 +91,7 @@ pub(crate) fn peel(
         fine: true,
         ours: a,
         theirs: t,
+        looked: l + n,
     }
 }
 

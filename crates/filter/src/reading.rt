@@ -6,12 +6,11 @@ ghost use Prim.Native.Nat.{_≤_};
 ghost use lib.Dec.{leb};
 ghost use lib.ListN.{length};
 ghost use Rattle.bucket.specs.Bucket.{𝟎};
-ghost use Rattle.bucket.specs.Columns.{columns, view};
+ghost use Rattle.bucket.specs.Columns.{columns};
 ghost use Rattle.bucket.specs.Crc.{crcTables};
 ghost use Rattle.filter.specs.Answers.{refusalNumber, answerOf};
 ghost use Rattle.filter.specs.Table.{firstEight, idsOf, isTable};
-ghost use Rattle.filter.specs.Filter.{filterRule, difference};
-ghost use Rattle.filter.specs.Calls.{areCounts, hasRoom, filled, listedInto, answered, unread, readWith, outcomeOf, verdictOf, readCall, clearCall};
+ghost use Rattle.filter.specs.Calls.{areCounts, hasRoom, filled, listedInto, answered, unread, subtracted, outcomeOf, lookedOf, readBy, readCall, clearCall};
 ghost use Rattle.filter.specs.Steps.{Ready, Received, Wide, Peels};
 use crate::answers::Reading;
 use crate::answers::Refusal;
@@ -82,20 +81,27 @@ fn read_difference(
 ) -> Reading
     requires { ⌜ Ready size salt (now table) (columns (now ids) (now hashes) (now counts)) (now ours) (now theirs) ⌝ }
     ensures { λ r. ⌜ answered (answerOf r) (columns (now (ids .exit)) (now (hashes .exit)) (now (counts .exit))) (now (ours .exit)) (now (theirs .exit))
-        ≡ readWith (verdictOf firstEight size salt (now (table .entry)) (columns (now (ids .entry)) (now (hashes .entry)) (now (counts .entry)))) size
-        (outcomeOf firstEight size salt (now (table .entry)) (columns (now (ids .entry)) (now (hashes .entry)) (now (counts .entry))))
-        (columns (now (ids .entry)) (now (hashes .entry)) (now (counts .entry))) (now (ours .entry)) (now (theirs .entry)) ⌝ }
+        ≡ readBy (idsOf firstEight (now (table .entry))) size salt (columns (now (ids .entry)) (now (hashes .entry)) (now (counts .entry))) (now (ours .entry)) (now (theirs .entry)) ⌝ }
 {
     let p = peel_difference(table, ids, hashes, counts, ours, theirs, size, salt);
     let a = p.ours;
     let b = p.theirs;
+    let l = p.looked;
     let v = crate::judging::judge(table, ids, hashes, counts, ours, theirs, p.fine, a, b, size);
     match v {
-        Verdict::Complete => Reading::Complete { ours: a, theirs: b },
-        Verdict::Stuck => Reading::Stuck { ours: a, theirs: b },
+        Verdict::Complete => Reading::Complete {
+            ours: a,
+            theirs: b,
+            looked: l,
+        },
+        Verdict::Stuck => Reading::Stuck {
+            ours: a,
+            theirs: b,
+            looked: l,
+        },
         Verdict::False => {
             clear_all(ids, hashes, counts, ours, theirs, size as usize);
-            Reading::Untrue
+            Reading::Untrue { looked: l }
         }
     }
 }
@@ -133,9 +139,10 @@ fn peel_difference(
     salt: u32,
 ) -> Peeled
     requires { ⌜ Ready size salt (now table) (columns (now ids) (now hashes) (now counts)) (now ours) (now theirs) ⌝ }
-    ensures { λ r. ⌜ Peels size (outcomeOf firstEight size salt (now (table .entry)) (columns (now (ids .entry)) (now (hashes .entry)) (now (counts .entry))))
+    ensures { λ r. ⌜ Peels size (outcomeOf (idsOf firstEight (now (table .entry))) size salt (columns (now (ids .entry)) (now (hashes .entry)) (now (counts .entry))))
         (columns (now (ids .entry)) (now (hashes .entry)) (now (counts .entry))) (listedInto size [] (now (ours .entry))) (listedInto size [] (now (theirs .entry))) (r .fine)
-        (columns (now (ids .exit)) (now (hashes .exit)) (now (counts .exit))) (now (ours .exit)) (now (theirs .exit)) (r .ours) (r .theirs) ⌝ }
+        (columns (now (ids .exit)) (now (hashes .exit)) (now (counts .exit))) (now (ours .exit)) (now (theirs .exit)) (r .ours) (r .theirs)
+        × (r .looked ≡ lookedOf (idsOf firstEight (now (table .entry))) size salt (columns (now (ids .entry)) (now (hashes .entry)) (now (counts .entry)))) ⌝ }
 {
     let tab = bucket::crc::tables();
     subtract(&tab, table, ids, hashes, counts, size, salt);
@@ -173,7 +180,7 @@ fn subtract(
 )
     requires { ⌜ (now tab ≡ crcTables) × Received size salt (now table) (columns (now ids) (now hashes) (now counts)) ⌝ }
     ensures { λ _. ⌜ columns (now (ids .exit)) (now (hashes .exit)) (now (counts .exit))
-        ≡ filled size (difference (filterRule size salt) (idsOf firstEight (now (table .entry))) (view (columns (now (ids .entry)) (now (hashes .entry)) (now (counts .entry)))))
+        ≡ filled size (subtracted (idsOf firstEight (now (table .entry))) size salt (columns (now (ids .entry)) (now (hashes .entry)) (now (counts .entry))))
         (columns (now (ids .entry)) (now (hashes .entry)) (now (counts .entry))) ⌝ }
 {
     crate::clearing::negate(counts, size as usize);

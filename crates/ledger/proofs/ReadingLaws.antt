@@ -12,7 +12,7 @@ use Rattle.bucket.proofs.TestLaws.{and-holds}
 use Rattle.filter.specs.declared.answers.Refusal.the-variants.{None}
 use Rattle.filter.specs.declared.answers.Verdict.{Verdict}
 use Rattle.filter.specs.declared.answers.Verdict.the-variants.{Complete, Stuck, False}
-use Rattle.filter.specs.Calls.{inRange, areCounts, hasRoom, readRefusal, Read, readFalse, readWith, readCall}
+use Rattle.filter.specs.Calls.{inRange, areCounts, hasRoom, readRefusal, Read, readFalse, readWith, outcomeOf, verdictOf, lookedOf, readCall}
 use Rattle.filter.specs.Filter.{oursOf, theirsOf, Rule, filterRule, difference}
 use Rattle.filter.specs.Peeling.{Outcome, reading, verdict}
 use Rattle.filter.specs.Table.{hashesOf, isTable}
@@ -34,12 +34,12 @@ pub record ReadLaw (ids : List ℕ) (r : Read) : Type 0 where
 -- ---- a reading by its verdict
 
 -- only a false one answers 6
-only-false : (v : Verdict) (size : ℕ) (r : Outcome) (c : Columns) (o th : List ℕ)
-    → isFalse (readWith v size r c o th) ≡ true → readWith v size r c o th ≡ readFalse size c o th
+only-false : (v : Verdict) (size : ℕ) (r : Outcome) (l : ℕ) (c : Columns) (o th : List ℕ)
+    → isFalse (readWith v size r l c o th) ≡ true → readWith v size r l c o th ≡ readFalse size l c o th
 unfolding readWith
-only-false Complete size r c o th e = absurd (false≢true e)
-only-false Stuck size r c o th e = absurd (false≢true e)
-only-false False size r c o th e = refl
+only-false Complete size r l c o th e = absurd (false≢true e)
+only-false Stuck size r l c o th e = absurd (false≢true e)
+only-false False size r l c o th e = refl
 
 module _ (derive : ℕ → ℕ) (t : List ℕ) (size salt : ℕ) (c : Columns) (o th : List ℕ) where
   pub read-law : isComplete (readingAt derive t size salt c o th) ≡ true → ReadLaw (idsOf derive t) (readingAt derive t size salt c o th)
@@ -52,6 +52,9 @@ module _ (derive : ℕ → ℕ) (t : List ℕ) (size salt : ℕ) (c : Columns) (
       r : Outcome
       r = reading R (difference R (idsOf derive t) (view c))
 
+      l : ℕ
+      l = lookedOf (idsOf derive t) size salt c
+
       once : Distinct (Rattle.filter.specs.Filter.ids (r .listed))
       once = reading-distinct R (difference R (idsOf derive t) (view c))
 
@@ -59,10 +62,10 @@ module _ (derive : ℕ → ℕ) (t : List ℕ) (size salt : ℕ) (c : Columns) (
       back : (l : List ℕ) (x : ℕ) → x ∈ reverse l → List·Memᴰ x l
       back l x e = elem-mem x l (sym (elem-reverse x l) ∙ e)
 
-      listed : verdict R (idsOf derive t) r ≡ Complete → ReadLaw (idsOf derive t) (readWith Complete size r c o th)
+      listed : verdict R (idsOf derive t) r ≡ Complete → ReadLaw (idsOf derive t) (readWith Complete size r l c o th)
       listed v =
-          let a : oursIn (readWith Complete size r c o th) ≡ reverse (oursOf (r .listed)) = listed-back size (oursOf (r .listed)) o in
-          let b : theirsIn (readWith Complete size r c o th) ≡ reverse (theirsOf (r .listed)) = listed-back size (theirsOf (r .listed)) th in
+          let a : oursIn (readWith Complete size r l c o th) ≡ reverse (oursOf (r .listed)) = listed-back size (oursOf (r .listed)) o in
+          let b : theirsIn (readWith Complete size r l c o th) ≡ reverse (theirsOf (r .listed)) = listed-back size (theirsOf (r .listed)) th in
           record {
             oursHeld = λ x e. mem-elem (sound-ours R (idsOf derive t) (view c) v x (back (oursOf (r .listed)) x (subst (λ (l : List ℕ). x ∈ l) a e)));
             oursOnce = subst Distinct (sym a) (distinct-reverse (oursOf (r .listed)) (distinct-ours (r .listed) once));
@@ -70,7 +73,7 @@ module _ (derive : ℕ → ℕ) (t : List ℕ) (size salt : ℕ) (c : Columns) (
             theirsOnce = subst Distinct (sym b) (distinct-reverse (theirsOf (r .listed)) (distinct-theirs (r .listed) once));
           }
 
-      go : (v : Verdict) → verdict R (idsOf derive t) r ≡ v → isComplete (readWith v size r c o th) ≡ true → ReadLaw (idsOf derive t) (readWith v size r c o th)
+      go : (v : Verdict) → verdict R (idsOf derive t) r ≡ v → isComplete (readWith v size r l c o th) ≡ true → ReadLaw (idsOf derive t) (readWith v size r l c o th)
       go Complete e k = listed e
       go Stuck e k = absurd (false≢true k)
       go False e k = absurd (false≢true k)
@@ -78,23 +81,18 @@ module _ (derive : ℕ → ℕ) (t : List ℕ) (size salt : ℕ) (c : Columns) (
   -- a complete reading is no refusal
   pub complete-clean : isComplete (readingAt derive t size salt c o th) ≡ true → readingAt derive t size salt c o th .answer .refusal ≡ 0
   unfolding readingAt readWith
-  complete-clean = go (verdict R (idsOf derive t) r) r
+  complete-clean = go (verdictOf (idsOf derive t) size salt c) (outcomeOf (idsOf derive t) size salt c) (lookedOf (idsOf derive t) size salt c)
     where
-      R : Rule
-      R = filterRule size salt
-
-      r : Outcome
-      r = reading R (difference R (idsOf derive t) (view c))
-
-      go : (v : Verdict) (r : Outcome) → isComplete (readWith v size r c o th) ≡ true → readWith v size r c o th .answer .refusal ≡ 0
-      go Complete r e = refl
-      go Stuck r e = absurd (false≢true e)
-      go False r e = absurd (false≢true e)
+      go : (v : Verdict) (r : Outcome) (l : ℕ) → isComplete (readWith v size r l c o th) ≡ true → readWith v size r l c o th .answer .refusal ≡ 0
+      go Complete r l e = refl
+      go Stuck r l e = absurd (false≢true e)
+      go False r l e = absurd (false≢true e)
 
   -- a false one leaves columns and lists zero, in the first size places
-  pub false-cleared : isFalse (readingAt derive t size salt c o th) ≡ true → readingAt derive t size salt c o th ≡ readFalse size c o th
+  pub false-cleared : isFalse (readingAt derive t size salt c o th) ≡ true
+      → readingAt derive t size salt c o th ≡ readFalse size (lookedOf (idsOf derive t) size salt c) c o th
   unfolding readingAt
-  false-cleared = only-false _ size _ c o th
+  false-cleared = only-false _ size _ _ c o th
 
 -- ---- the reading is filter's
 

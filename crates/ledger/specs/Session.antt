@@ -18,15 +18,14 @@ use lib.Dec.{eqb, ltb, leb}
 use lib.IntN.{pos}
 use lib.ListN.{take, replicate}
 use Rattle.bucket.specs.Bucket.{𝟎}
-use Rattle.bucket.specs.Columns.{Columns, columns, view}
+use Rattle.bucket.specs.Columns.{Columns, columns}
 use Rattle.bucket.specs.Lists.{elem}
 use Rattle.filter.specs.declared.answers.Refusal.{Refusal}
 use Rattle.filter.specs.declared.answers.Refusal.the-variants.{Malformed, OutOfTurn, FalseReading, Breach, Checksum, Swaps, Limit}
 use Rattle.filter.specs.Answers.{refusalNumber, firstOf}
 use Rattle.filter.specs.Lists.{select}
-use Rattle.filter.specs.Filter.{filterRule, filterOf, difference}
-use Rattle.filter.specs.Peeling.{reading, verdict}
-use Rattle.filter.specs.Calls.{Read, readWith, filled, listedInto}
+use Rattle.filter.specs.Filter.{filterRule, filterOf}
+use Rattle.filter.specs.Calls.{Read, readBy, filled, listedInto}
 use Rattle.message.specs.Layout.{Content, slice, inquiry, offer, demand, element, done}
 use Rattle.message.specs.Laying.{laid}
 use Rattle.message.specs.Writing.{inquiriesOf, offersOf, demandsOf, widthFor, slicesOf}
@@ -249,10 +248,7 @@ module _ (derive : ℕ → ℕ) (table : List ℕ) where
   -- ---- the reading of the filter that a slice completes
 
   unfoldable pub readingAt : (size salt : ℕ) → Columns → List ℕ → List ℕ → Read
-  readingAt size salt c o th =
-      let R = filterRule size salt in
-      let r = reading R (difference R (idsOf derive table) (view c)) in
-      readWith (verdict R (idsOf derive table) r) size r c o th
+  readingAt size salt c o th = readBy (idsOf derive table) size salt c o th
 
   abbrev pub readOf : Session → Content → (size salt : ℕ) → Read
   readOf s c size salt = readingAt size salt (laid c (s .columns)) (s .ours) (s .theirs)

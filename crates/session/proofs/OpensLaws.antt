@@ -7,14 +7,14 @@ use native.Mathlib.Omega.{arith}
 use lib.Dec.{eqb}
 use lib.ListN.{length, length-append, length-reverse}
 use lib.Seq.{length-take-le}
-use Rattle.bucket.specs.Columns.{Columns, view}
+use Rattle.bucket.specs.Columns.{Columns}
 use Rattle.bucket.specs.Lists.{over, pad}
 use Rattle.filter.specs.declared.answers.Refusal.the-variants.{None}
 use Rattle.filter.specs.declared.answers.Verdict.{Verdict}
 use Rattle.filter.specs.declared.answers.Verdict.the-variants.{Complete, Stuck, False}
-use Rattle.filter.specs.Calls.{Read, listedInto, readRefusal, readWith, readCall}
-use Rattle.filter.specs.Filter.{Rule, oursOf, theirsOf, filterRule, difference}
-use Rattle.filter.specs.Peeling.{Outcome, reading, verdict}
+use Rattle.filter.specs.Calls.{Read, listedInto, readRefusal, readWith, subtracted, outcomeOf, verdictOf, lookedOf, readCall}
+use Rattle.filter.specs.Filter.{oursOf, theirsOf, filterRule}
+use Rattle.filter.specs.Peeling.{Outcome}
 use Rattle.filter.specs.Table.{firstEight, hashesOf, isTable}
 use Rattle.filter.proofs.PeelLaws.{listed-few}
 use Rattle.filter.proofs.SideLaws.{ours-few, theirs-few}
@@ -38,35 +38,31 @@ listed-there : (n : ℕ) (l o : List ℕ) → length l ≤ length (listedInto n 
 unfolding listedInto over pad
 listed-there n l o = simp (length-append, length-reverse) (omega arith)
 
-listing-with : (size : ℕ) (v : Verdict) (r : Outcome) (c : Columns) (o th : List ℕ) → length (r .listed) ≤ size → Listing size (readWith v size r c o th)
+listing-with : (size : ℕ) (v : Verdict) (r : Outcome) (l : ℕ) (c : Columns) (o th : List ℕ) → length (r .listed) ≤ size → Listing size (readWith v size r l c o th)
 unfolding readWith
-listing-with size Complete r c o th h = record {
+listing-with size Complete r l c o th h = record {
   ours-few = omega (arith, h, ours-few (r .listed));
   ours-there = listed-there size (oursOf (r .listed)) o;
   theirs-few = omega (arith, h, theirs-few (r .listed));
   theirs-there = listed-there size (theirsOf (r .listed)) th;
   refuses = refl;
 }
-listing-with size Stuck r c o th h = record {
+listing-with size Stuck r l c o th h = record {
   ours-few = omega (arith, h, ours-few (r .listed));
   ours-there = listed-there size (oursOf (r .listed)) o;
   theirs-few = omega (arith, h, theirs-few (r .listed));
   theirs-there = listed-there size (theirsOf (r .listed)) th;
   refuses = refl;
 }
-listing-with size False r c o th h =
+listing-with size False r l c o th h =
     record { ours-few = omega arith; ours-there = omega arith; theirs-few = omega arith; theirs-there = omega arith; refuses = refl }
 
 module _ (derive : ℕ → ℕ) (t : List ℕ) (size salt : ℕ) (c : Columns) (o th : List ℕ) where
   pub listing : Listing size (readingAt derive t size salt c o th)
   unfolding readingAt
-  listing = listing-with size (verdict R (idsOf derive t) r) r c o th (listed-few R (difference R (idsOf derive t) (view c)))
-    where
-      R : Rule
-      R = filterRule size salt
-
-      r : Outcome
-      r = reading R (difference R (idsOf derive t) (view c))
+  listing =
+      listing-with size (verdictOf (idsOf derive t) size salt c) (outcomeOf (idsOf derive t) size salt c) (lookedOf (idsOf derive t) size salt c) c o th
+      (listed-few (filterRule size salt) (subtracted (idsOf derive t) size salt c))
 
   pub ours-count : length (oursIn (readingAt derive t size salt c o th)) ≡ readingAt derive t size salt c o th .answer .ours
   ours-count = length-take-le (readingAt derive t size salt c o th .answer .ours) (readingAt derive t size salt c o th .ours) (listing .ours-there)

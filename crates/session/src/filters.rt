@@ -164,12 +164,12 @@ fn fate_of(r: Reading, nt: usize, swaps: u32) -> Fate
     ensures { λ f. ⌜ Fated (answerOf r) nt swaps f ⌝ }
 {
     match r {
-        Reading::Complete { ours, theirs } => came(nt, ours, theirs),
-        Reading::Stuck { ours, theirs } => failed(0, ours, theirs, swaps),
+        Reading::Complete { ours, theirs, .. } => came(nt, ours, theirs),
+        Reading::Stuck { ours, theirs, .. } => failed(0, ours, theirs, swaps),
         Reading::BadForm => failed(FORM, 0, 0, swaps),
         Reading::BadRange => failed(RANGE, 0, 0, swaps),
         Reading::NoRoom => failed(ROOM, 0, 0, swaps),
-        Reading::Untrue => failed(FALSE_READING, 0, 0, swaps),
+        Reading::Untrue { .. } => failed(FALSE_READING, 0, 0, swaps),
     }
 }
 

@@ -2,11 +2,11 @@
 ghost use mathlib.Core.Path.{_≡_};
 
 // major × 10,000 + minor × 100 + patch.
-const VERSION: u32 = 400;
+const VERSION: u32 = 500;
 
 #[no_mangle]
 pub extern "C" fn tandawire_version() -> u32
-    ensures { λ r. ⌜ r ≡ 400 ⌝ }
+    ensures { λ r. ⌜ r ≡ 500 ⌝ }
 {
     VERSION
 }

@@ -25,9 +25,9 @@ use Rattle.bucket.proofs.ListLaws.{elem-head, elem-tail, elem-cases, or-true-r}
 use Rattle.bucket.proofs.SaltLaws.{salted-lt, unsalted-lt}
 use Rattle.filter.specs.declared.answers.Verdict.{Verdict}
 use Rattle.filter.specs.declared.answers.Verdict.the-variants.{Complete, Stuck, False}
-use Rattle.filter.specs.Calls.{filled, readWith}
-use Rattle.filter.specs.Filter.{Item, ours, theirs, idOf, ids, oursOf, theirsOf, Rule, rule, filterRule, touches, cell, put, sumAt, filterOf, difference}
-use Rattle.filter.specs.Peeling.{Next, nothing, again, take, Outcome, remove, next, run, reading, verdict}
+use Rattle.filter.specs.Calls.{filled, readWith, outcomeOf, verdictOf, lookedOf}
+use Rattle.filter.specs.Filter.{Item, ours, theirs, idOf, ids, oursOf, theirsOf, Rule, rule, touches, cell, put, sumAt, filterOf, difference}
+use Rattle.filter.specs.Peeling.{Next, nothing, again, take, Outcome, remove, next, run, reading}
 use Rattle.filter.proofs.GrantedLaws.{listed-back}
 use Rattle.filter.proofs.PeelLaws.{first-some, looks, look-some, look-pure, shown, next-take, listed-sides}
 use Rattle.filter.proofs.PureLaws.{id-sided}
@@ -146,7 +146,10 @@ cleared-ids n c b = filled-ids n (λ i. 𝟎) c (λ i. pow-pos 64) b
 
 module _ (derive : ℕ → ℕ) (t : List ℕ) (size salt : ℕ) (c : Columns) (o th : List ℕ) (own : Fit 64 (idsOf derive t)) (b : Below 64 (c .idsums)) where
   abbrev r : Outcome
-  r = reading (filterRule size salt) (difference (filterRule size salt) (idsOf derive t) (view c))
+  r = outcomeOf (idsOf derive t) size salt c
+
+  abbrev l : ℕ
+  l = lookedOf (idsOf derive t) size salt c
 
   peeled : Peeled (placeCount size) size salt (r .listed) (r .rest)
   peeled = reading-ids (placeCount size) size salt _ (difference-ids (placeCount size) size salt (idsOf derive t) (view c) own (view-ids c b))
@@ -154,12 +157,12 @@ module _ (derive : ℕ → ℕ) (t : List ℕ) (size salt : ℕ) (c : Columns) (
   -- what is listed as theirs
   pub theirs-fit : isComplete (readingAt derive t size salt c o th) ≡ true → Fit 64 (theirsIn (readingAt derive t size salt c o th))
   unfolding readingAt readWith
-  theirs-fit = go (verdict (filterRule size salt) (idsOf derive t) r)
+  theirs-fit = go (verdictOf (idsOf derive t) size salt c)
     where
-      listed : theirsIn (readWith Complete size r c o th) ≡ reverse (theirsOf (r .listed))
+      listed : theirsIn (readWith Complete size r l c o th) ≡ reverse (theirsOf (r .listed))
       listed = listed-back size (theirsOf (r .listed)) th
 
-      go : (v : Verdict) → isComplete (readWith v size r c o th) ≡ true → Fit 64 (theirsIn (readWith v size r c o th))
+      go : (v : Verdict) → isComplete (readWith v size r l c o th) ≡ true → Fit 64 (theirsIn (readWith v size r l c o th))
       go Complete k = λ x e. peeled .listed x
           (listed-sides x (r .listed)
           ∙ ap (λ (q : Bool). elem x (oursOf (r .listed)) || q) (sym (elem-reverse x (theirsOf (r .listed))) ∙ subst (λ (l : List ℕ). x ∈ l) listed e)
@@ -170,9 +173,9 @@ module _ (derive : ℕ → ℕ) (t : List ℕ) (size salt : ℕ) (c : Columns) (
   -- the columns that it leaves
   pub reading-columns : Below 64 (readingAt derive t size salt c o th .columns .idsums)
   unfolding readingAt readWith
-  reading-columns = go (verdict (filterRule size salt) (idsOf derive t) r)
+  reading-columns = go (verdictOf (idsOf derive t) size salt c)
     where
-      go : (v : Verdict) → Below 64 (readWith v size r c o th .columns .idsums)
+      go : (v : Verdict) → Below 64 (readWith v size r l c o th .columns .idsums)
       go Complete = filled-ids size (r .rest) c (peeled .rest) b
       go Stuck = filled-ids size (r .rest) c (peeled .rest) b
       go False = cleared-ids size c b

@@ -27,7 +27,9 @@ outcome c =
     (b .ensures) (c .read .ensures)
 
 put-refusal-requires : tie.Need-put-refusal-requires
-put-refusal-requires c κs = omega (arith, refusal-fits (c .before .before .before .numbers .result .refusal) (omega arith))
+put-refusal-requires c κs =
+    let room = c .before .before .before .before .before .before .before .before .before .before .before .before .before .before .before .before .before .before .before .before .before .before .before .before .before .pre in
+    omega (arith, refusal-fits (c .before .before .before .numbers .result .refusal) (omega arith), room)
 
 returns : tie.Need-returns
 returns c =

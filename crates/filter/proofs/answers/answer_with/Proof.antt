@@ -7,7 +7,7 @@ use Rattle.filter.proofs.answers.answer_with.Statement.{statement}
 use Rattle.filter.proofs.answers.answer_with.Tie as tie
 
 returns : tie.Need-returns
-returns c = let a = c .before .args in ap (λ (n : ℕ). answer n (a .complete) (a .ours) (a .theirs)) (c .refusal-number .ensures)
+returns c = let a = c .before .args in ap (λ (n : ℕ). answer n (a .complete) (a .ours) (a .theirs) (a .looked)) (c .refusal-number .ensures)
 
 pub answer-with-spec : {M : Type 1} → statement M
 answer-with-spec = tie.close (tie.spec (λ c κs. search needs) returns)

@@ -21,7 +21,7 @@ returns-5 : tie.Need-returns-5
 returns-5 c = c .answer-with5 .ensures ∙ sym (ap answerOf (c .before .enum-told3 .given .1))
 
 returns-6 : tie.Need-returns-6
-returns-6 c = c .answer-with6 .ensures ∙ sym (ap answerOf (c .before .enum-told4 .given .1))
+returns-6 c = c .answer-with6 .ensures ∙ sym (ap answerOf (c .before .before .r3 .given .1))
 
 pub numbers-spec : {M : Type 1} → statement M
 numbers-spec =

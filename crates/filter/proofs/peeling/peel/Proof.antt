@@ -25,8 +25,8 @@ use Rattle.filter.proofs.StepLaws.{
   peeling-lengths,
   peeling-wide,
   peeling-small,
-  peeling-again,
   peeling-count,
+  peeling-looked,
   peeling-ours,
   peeling-theirs,
   peeling-done,
@@ -42,7 +42,7 @@ use Rattle.filter.proofs.peeling.peel.Statement.{statement}
 use Rattle.filter.proofs.peeling.peel.Tie as tie
 
 abbrev Inv-loop : tie.InvT-loop
-Inv-loop tab ids₀ hashes₀ counts₀ ours₀ theirs₀ heads₀ links₀ seen₀ size salt k n bits₀ top₀ m₀ a₀ t₀ ids hashes counts ours theirs heads links seen bits top m a t =
+Inv-loop tab ids₀ hashes₀ counts₀ ours₀ theirs₀ heads₀ links₀ seen₀ size salt k n bits₀ top₀ m₀ a₀ t₀ l₀ ids hashes counts ours theirs heads links seen bits top m a t l =
     Peeling
     (record { size = size; k = k; salt = salt; columns = columns ids₀ hashes₀ counts₀; ours = ours₀; theirs = theirs₀ })
     (record {
@@ -57,10 +57,11 @@ Inv-loop tab ids₀ hashes₀ counts₀ ours₀ theirs₀ heads₀ links₀ seen
       made = m;
       a = a;
       t = t;
+      looked = l;
     })
 
 abbrev μ-loop : tie.MeasureT-loop
-μ-loop tab ids₀ hashes₀ counts₀ ours₀ theirs₀ heads₀ links₀ seen₀ size salt k n bits₀ top₀ m₀ a₀ t₀ ids hashes counts ours theirs heads links seen bits top m a t =
+μ-loop tab ids₀ hashes₀ counts₀ ours₀ theirs₀ heads₀ links₀ seen₀ size salt k n bits₀ top₀ m₀ a₀ t₀ l₀ ids hashes counts ours theirs heads links seen bits top m a t l =
     size + 1 - m
 
 -- what was given, and what is held before a turn
@@ -92,6 +93,7 @@ state l =
       made = w .m;
       a = w .a;
       t = w .t;
+      looked = w .l;
     }
 
 lengths : (l : tie.At-loop Inv-loop μ-loop) → SameLengths (state l .columns) (input l .columns)
@@ -173,6 +175,16 @@ loop-holds c =
 least-requires : tie.Need-least-requires Inv-loop μ-loop
 least-requires c κs = c .before .loop-test .taken
 
+-- the sum of looks is far from the end of its type
+
+add-l-2 : tie.Need-add-l-2 Inv-loop μ-loop
+add-l-2 c = omega (arith, few c, peeling-looked (input (turn c)) (state (turn c)) (turn c .loop .inv))
+
+add-last : tie.Need-add-t57 Inv-loop μ-loop
+add-last c =
+    let l = c .before in
+    omega (arith, l .loop .inv .fit .sound .most, peeling-looked (input l) (state l) (l .loop .inv))
+
 slice-read-h : tie.Need-slice-read-h Inv-loop μ-loop
 slice-read-h c = omega (arith, inside (c .before .before), wide (turn (c .before .before)) .hashsums)
 
@@ -197,10 +209,7 @@ same-length-5 c = same-theirs (head (c .before))
 returns : tie.Need-returns Inv-loop μ-loop
 returns c =
     let u = c .before in
-    let l = head u in (
-      peeling-full (input l) (state l) (l .loop .inv) (found u) (c .if1 .taken),
-      peeling-again (input l) (state l) (l .loop .inv),
-    )
+    let l = head u in peeling-full (input l) (state l) (l .loop .inv) (found u) (c .if1 .taken)
 
 enroll-requires : tie.Need-enroll-requires Inv-loop μ-loop
 enroll-requires c κs =
@@ -269,8 +278,9 @@ loop-again c =
       made = l .loop .m + 1;
       a = e .result .ours;
       t = e .result .theirs;
+      looked = l .loop .l + (found u .b + 1);
     })
-    (r .result) (other .if1 .left) refl (r .ensures) (entered .before .before .before .if2 .taken) (t .ensures .0) (t .ensures .1)
+    (r .result) (other .if1 .left) refl refl (r .ensures) (entered .before .before .before .if2 .taken) (t .ensures .0) (t .ensures .1)
     (e .ensures (input l .ours) (input l .theirs) (p .acc) (same-ours l) (same-theirs l) (p .listed))
 
 same-length-6 : tie.Need-same-length-6 Inv-loop μ-loop
@@ -292,11 +302,9 @@ returns-2 : tie.Need-returns-2 Inv-loop μ-loop
 returns-2 c =
     let r = c .before .enroll in
     let u = c .before .before .before .before .before .before in
-    let l = head u in (
-      peeling-repeated (input l) (state l) (l .loop .inv) (found u) (r .result) (r .last .0) (r .last .1 .0) (r .last .1 .1 .0) (r .ensures)
-          (c .if2 .left),
-      r .ensures .again,
-    )
+    let l = head u in
+    peeling-repeated (input l) (state l) (l .loop .inv) (found u) (r .result) (r .last .0) (r .last .1 .0) (r .last .1 .1 .0) (r .ensures)
+    (c .if2 .left)
 
 same-length-11 : tie.Need-same-length-11 Inv-loop μ-loop
 same-length-11 c = lengths (c .before) .0
@@ -315,15 +323,15 @@ same-length-15 c = same-theirs (c .before)
 
 returns-3 : tie.Need-returns-3 Inv-loop μ-loop
 returns-3 c =
-    let l = c .before in (peeling-done (input l) (state l) (l .loop .inv) (c .loop-test .left), peeling-again (input l) (state l) (l .loop .inv))
+    let l = c .before in peeling-done (input l) (state l) (l .loop .inv) (c .loop-test .left)
 
 pub peel-spec : {M : Type 1} → statement M
 peel-spec =
     tie.close
     (tie.spec
-    Inv-loop μ-loop survey-requires loop-holds least-requires (λ c. omega (arith, few c))
+    Inv-loop μ-loop survey-requires loop-holds least-requires (λ c. omega (arith, few c)) add-l-2 (λ c. omega (arith, few c))
     (λ c. omega (arith, inside (c .before), wide (turn (c .before)) .idsums)) (λ c. omega (arith, few (c .before))) slice-read-h
     (λ c. omega (arith, few (c .before .before))) slice-copy-out-s (λ c κs. search needs) same-length same-length-2 same-length-3
     same-length-4 same-length-5 returns enroll-requires enter-requires take-out-requires add-m loop-less loop-again same-length-6
-    same-length-7 same-length-8 same-length-9 same-length-10 returns-2 same-length-11 same-length-12 same-length-13 same-length-14
+    same-length-7 same-length-8 same-length-9 same-length-10 returns-2 add-last same-length-11 same-length-12 same-length-13 same-length-14
     same-length-15 returns-3)

@@ -15,7 +15,7 @@ use Rattle.filter.proofs.FilledLaws.{wide-filled}
 use Rattle.filter.proofs.PartLaws.{range-sound, small-difference}
 use Rattle.filter.proofs.RepeatLaws.{chains-start}
 use Rattle.filter.proofs.TableLaws.{table-count, ids-length}
-use Rattle.filter.proofs.CallLaws.{listed-length, peels-call}
+use Rattle.filter.proofs.CallLaws.{listed-length, peels-call, looked-call}
 use borrow.Author.Needs.{needs}
 use Rattle.filter.proofs.reading.peel_difference.Statement.{statement}
 use Rattle.filter.proofs.reading.peel_difference.Tie as tie
@@ -76,6 +76,16 @@ same-length c =
     let p = c .before .before .before .before .before .before .before .before in
     p .ids2 .given ∙ ours-cleared (p .before .before) .before .before .before .before .before .before .ids .given
 
+same-length-2 : tie.Need-same-length-2
+same-length-2 c =
+    let p = c .before .before .before .before .before .before in
+    p .hashes2 .given ∙ ours-cleared (p .before .before .before .before) .before .before .before .before .hashes .given
+
+same-length-3 : tie.Need-same-length-3
+same-length-3 c =
+    let p = c .before .before .before .before in
+    p .counts2 .given ∙ ours-cleared (p .before .before .before .before .before .before) .before .before .counts .given
+
 returns : tie.Need-returns
 returns c =
     let p = c .before .before .before .before .before .before .before .before .before in
@@ -83,12 +93,16 @@ returns c =
     let s = start d in
     let a = s .args in
     let k = counted d .place-count in
-    peels-call (a .size) (a .salt) (placeCount (a .size)) (minus s) (received s) (s .pre .received .wide) (k .result) (k .ensures)
-    (subtracted d .subtract .ensures) (ours-cleared d .clear-list .ensures) (theirs-cleared d .clear-list2 .ensures) (p .peel .ensures .0)
+    (
+      peels-call (a .size) (a .salt) (placeCount (a .size)) (minus s) (received s) (s .pre .received .wide) (k .result) (k .ensures)
+          (subtracted d .subtract .ensures) (ours-cleared d .clear-list .ensures) (theirs-cleared d .clear-list2 .ensures) (p .peel .ensures .0),
+      looked-call (a .size) (a .salt) (placeCount (a .size)) (minus s) (received s) (s .pre .received .wide) (k .result) (k .ensures)
+          (subtracted d .subtract .ensures) (p .peel .ensures .2),
+    )
 
 pub peel-difference-spec : {M : Type 1} → statement M
 peel-difference-spec =
     tie.close
     (tie.spec
     (λ c κs. search needs) (λ c κs. search needs) (λ c κs. search needs) (λ c κs. search needs) (λ c κs. search needs) peel-requires
-    same-length (λ c. search needs) (λ c. search needs) (λ c. search needs) (λ c. search needs) returns)
+    same-length same-length-2 same-length-3 (λ c. search needs) (λ c. search needs) returns)
