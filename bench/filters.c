@@ -9,6 +9,7 @@
 
 #include "../include/tandawire.h"
 #include "baseline.h"
+#include "longest.h"
 #include "row.h"
 #include "tables.h"
 
@@ -266,6 +267,16 @@ static int refusals_agree(void)
     {"peel_" #ours "_" #size, "of this filter::peeling::peel, " #ours " + 0",                  \
      "filter::peeling::peel", "c_peel", size, 4096 - ours, ours, 0, limit, 0}
 
+/* Nothing is ours, and theirs is made to take long: columns of the longest reading found, and tables
+ * whose IDs are alike in their low bits. The number of these stands where that of common elements
+ * does, which there are none of. */
+#define LONG(size, limit)                                                                      \
+    {"read_longest_" #size, "read, the longest found at " #size, "tandawire_read", "c_read",   \
+     size, 0, 0, 0, limit, 0}
+#define ALIKE(bits, theirs, size, limit)                                                       \
+    {"read_alike_" #bits, "read 0 + " #theirs " at " #size ", " #bits " bits alike",           \
+     "tandawire_read", "c_read", size, bits, 0, theirs, limit, 0}
+
 static const struct job jobs[] = {
     BUILD(4093, 750000, 0),        BUILD(4096, 750000, 0),
     READ(10, 0, 4093, 0),          READ(10, 0, 4096, 0),
@@ -279,12 +290,34 @@ static const struct job jobs[] = {
     READ(250, 250, 4093, 0),       READ(250, 250, 4096, 0),
     READ(500, 500, 4093, 0),       READ(500, 500, 4096, 0),
     READ(1250, 1250, 4093, 0),     READ(1250, 1250, 4096, 0),
+    LONG(4096, 2200000),           ALIKE(0, 3000, 4093, 1800000),
+    ALIKE(12, 3000, 4093, 2100000), ALIKE(52, 3000, 4093, 3400000),
 };
 enum { JOBS = sizeof jobs / sizeof jobs[0] };
 
 static int reads(const struct job *job)
 {
-    return job->ours > 0;
+    return strcmp(job->call, "tandawire_build") != 0;
+}
+
+/* Of a reading against the empty table. */
+static int is_long(const struct job *job)
+{
+    return reads(job) && job->ours == 0;
+}
+
+/* Their elements, or none but columns that no table makes. */
+static void prepare_long(const struct job *job, uint32_t salt)
+{
+    tables.ours_length = 0;
+    tables.theirs_length = job->theirs * HASH;
+    memset(tables.theirs, 0, sizeof tables.theirs);
+    for (uint64_t i = 0; i < job->theirs; i++)
+        for (int k = 0; k < 8; k++)
+            tables.theirs[HASH * i + k] = (uint8_t)((i + 1) << job->common >> (56 - 8 * k));
+    receive(job->size, salt);
+    if (job->theirs == 0)
+        make_longest(given.ids, given.hashes, given.counts);
 }
 
 /* One pair of tables at salts from 1. Seeded anew, so that a job is the same whatever ran before:
@@ -292,6 +325,10 @@ static int reads(const struct job *job)
  * that builds must be counted without another building. */
 static void prepare(const struct job *job, uint32_t salt)
 {
+    if (is_long(job)) {
+        prepare_long(job, salt);
+        return;
+    }
     if (salt == 1) {
         state = SEED;
         make(&tables, job->common, job->ours, job->theirs);
@@ -307,6 +344,8 @@ static int is_done(const struct job *job, const tandawire_reading r[2])
 {
     if (!are_same(r))
         return 0;
+    if (is_long(job) && job->theirs == 0)
+        return r[0].refusal == TANDAWIRE_REFUSED_FALSE && r[0].looked == LONGEST;
     if (r[0].complete)
         return r[0].refusal == 0 && r[0].ours == job->ours && r[0].theirs == job->theirs;
     return job->theirs > 0 && (r[0].refusal == 0 || r[0].refusal == TANDAWIRE_REFUSED_FALSE);

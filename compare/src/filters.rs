@@ -135,7 +135,7 @@ impl Filter {
 
     /// One look from bucket 0: the first bucket that looks pure, if any does, and how many buckets
     /// were looked at for it.
-    fn look(&self) -> (Option<u32>, usize) {
+    pub fn look(&self) -> (Option<u32>, usize) {
         let mut looked = 0;
         for i in 0..self.size() {
             looked += 1;

@@ -9,16 +9,15 @@
 //!   refused.rs   refusals 1, 2 and 3: the number is 0, and everything is unchanged; and 6
 //!   any.rs       any readings of any size, and values behind the size
 //!   keys.rs      salted IDs by their places
+//!   longest.rs   the longest that were found
 //!   counts.rs    how many there must be of each kind
-//!
-//! To add readings, the longest ones say: a file here that makes their columns and hands them to
-//! `one`, named in `PARTS`.
 
 mod any;
 mod chains;
 mod counts;
 mod keys;
 mod known;
+mod longest;
 mod one_side;
 mod refused;
 mod repeats;
@@ -32,13 +31,14 @@ use crate::random::Random;
 use crate::sets::Call;
 use crate::Tally;
 
-const PARTS: [fn(&mut Tally); 6] = [
+const PARTS: [fn(&mut Tally); 7] = [
     known::compare,
     repeats::compare,
     chains::compare,
     one_side::compare,
     refused::compare,
     any::compare,
+    longest::compare,
 ];
 
 pub fn compare(tally: &mut Tally) {

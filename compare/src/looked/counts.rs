@@ -11,8 +11,8 @@ const LEAST: u64 = 8_000;
 const LEAST_OF_A_KIND: u64 = 200;
 const LEAST_WORKED_OUT: u64 = 7_000;
 
-/// The number of a reading must have come up to this, for one that holds fewer bits to show.
-const LEAST_LARGEST: usize = 1 << 23;
+/// The number of a reading must have come up to that of the longest that was found.
+const LEAST_LARGEST: usize = 13_529_091;
 
 const KINDS: [&str; 8] = [
     "complete",

@@ -81,11 +81,11 @@ ruleOf n = rule (n .k) (n .size) (n .salt)
 abbrev pub pureIn : Input → Columns → ℕ → Bool
 pureIn n c = shows (rule (n .k) (n .size) 0) (view c)
 
--- what is promised of an end; l buckets were looked at
-abbrev pub Ends : Input → State → Bool → ℕ → Type 0
-Ends n g fine l =
+-- what is promised of an end: the three arrays may be lent again, and l buckets were looked at
+abbrev pub Ends : Input → State → List ℕ → List ℕ → List ℕ → Bool → ℕ → Type 0
+Ends n g heads links seen fine l =
     Peels (n .size) (reading (ruleOf n) (view (n .columns))) (n .columns) (n .ours) (n .theirs) fine (g .columns) (g .ours) (g .theirs) (g .a) (g .t)
-    × Chains 0 (g .heads) (g .links) (g .seen)
+    × Chains 0 heads links seen
     × (l ≡ looked (ruleOf n) (view (n .columns)))
 
 pub record Fit (n : Input) : Type 0 where
@@ -196,7 +196,7 @@ module _ (n : Input) (g : State) (p : Peeling n g) where
   one = reach (looks (ruleOf n) (view (g .columns))) 0 (n .size)
 
   ends : (fine : Bool) (l : ℕ) → l ≡ one → Ended (ruleOf n) (view (n .columns)) fine (p .acc) (view (g .columns)) (g .looked + one)
-      → Ends n g fine (g .looked + l)
+      → Ends n g (g .heads) (g .links) (g .seen) fine (g .looked + l)
   ends fine l o (e, m) = (
     record {
       fine-is = ap (λ (q : Outcome). q .fine) (sym e);
@@ -214,7 +214,7 @@ module _ (n : Input) (g : State) (p : Peeling n g) where
 
   -- ---- no bucket looks pure
 
-  pub peeling-done : g .top ≡ 0 → Ends n g true (g .looked + n .size)
+  pub peeling-done : g .top ≡ 0 → Ends n g (g .heads) (g .links) (g .seen) true (g .looked + n .size)
   peeling-done z =
       ends true (n .size) (omega (arith, first-impure (ruleOf n) (view (g .columns)) (n .size) impure .1))
       (inv-nothing (ruleOf n) (view (n .columns)) (p .acc) (view (g .columns)) (g .looked) (n .size - g .made) (p .inv)
@@ -278,15 +278,15 @@ module _ (n : Input) (g : State) (p : Peeling n g) where
 
     -- its ID was listed before
     pub peeling-repeated : (r : Bool) (heads links seen : List ℕ) → Enrolled (g .made) (f .id) (g .seen) r heads links seen → r ≡ false
-        → Ends n (record { columns = g .columns; ours = g .ours; theirs = g .theirs; bits = g .bits; heads = heads; links = links; seen = seen; top = g .top; made = g .made; a = g .a; t = g .t; looked = g .looked }) false (g .looked + (f .b + 1))
+        → Ends n g heads links seen false (g .looked + (f .b + 1))
     peeling-repeated r heads links seen d e =
-        let m = ends false (f .b + 1) (least-reach (f .b) (f .lowest))
-            (inv-again (ruleOf n) (view (n .columns)) (p .acc) (view (g .columns)) (g .looked) (n .size - g .made) (p .inv)
-            (repeats (not-false was-listed (sym (d .fresh) ∙ e)))) in
+        let listed-before = repeats (not-false was-listed (sym (d .fresh) ∙ e)) in
+        let last = inv-again (ruleOf n) (view (n .columns)) (p .acc) (view (g .columns)) (g .looked) (n .size - g .made) (p .inv) listed-before in
+        let m = ends false (f .b + 1) (least-reach (f .b) (f .lowest)) last in
         (m .0, d .again, m .2)
 
     -- as many peels were made as there are buckets
-    pub peeling-full : g .made ≡ n .size → Ends n g false (g .looked + (f .b + 1))
+    pub peeling-full : g .made ≡ n .size → Ends n g (g .heads) (g .links) (g .seen) false (g .looked + (f .b + 1))
     peeling-full e = ends false (f .b + 1) (least-reach (f .b) (f .lowest)) (either was-listed refl)
       where
         last : Inv (ruleOf n) (view (n .columns)) 0 (p .acc) (view (g .columns)) (g .looked)

@@ -58,7 +58,9 @@ pub enum Reading {
     // a column or list is too short
     NoRoom,
     // the reading is false
-    Untrue { looked: usize },
+    Untrue {
+        looked: usize,
+    },
 }
 
 // The same in numbers: the refusal's, 1 for complete, how many IDs are listed as ours and as theirs, and how many buckets were looked at.
@@ -133,13 +135,7 @@ pub fn numbers(r: Reading) -> ReadAnswer
     }
 }
 
-fn answer_with(
-    why: Refusal,
-    complete: u32,
-    ours: usize,
-    theirs: usize,
-    looked: usize,
-) -> ReadAnswer
+fn answer_with(why: Refusal, complete: u32, ours: usize, theirs: usize, looked: usize) -> ReadAnswer
     ensures { λ n. ⌜ n ≡ answer (refusalNumber why) complete ours theirs looked ⌝ }
 {
     ReadAnswer {

@@ -1,5 +1,5 @@
 // Peeling: the lowest bucket that looks pure is listed and taken out of its places, again and again. The buckets that look pure
-// are kept as a set, changed only where a peel touches, and repeated IDs are found by chains.
+// are kept as a set, changed only where a peel touches, and repeated IDs are found in trees.
 ghost use mathlib.Core.Path.{_≡_};
 ghost use mathlib.Core.Bool.{true, false};
 ghost use mathlib.Core.List.{List, _∷_};
@@ -35,7 +35,7 @@ pub(crate) fn peel(
     ours: &mut [u64],
     theirs: &mut [u64],
     heads: &mut [u16; 4096],
-    links: &mut [u16; 4096],
+    links: &mut [u16; 8192],
     seen: &mut [u64; 4096],
     size: u32,
     salt: u32,
@@ -87,11 +87,13 @@ pub(crate) fn peel(
             };
         }
     }
+    // the look that finds nothing goes over all buckets
+    l += n;
     Peeled {
         fine: true,
         ours: a,
         theirs: t,
-        looked: l + n,
+        looked: l,
     }
 }
 

@@ -150,7 +150,7 @@ fn peel_difference(
     crate::clearing::clear_list(theirs, size as usize);
     let k = bucket::places::place_count(size);
     let mut heads = [0u16; 4096];
-    let mut links = [0u16; 4096];
+    let mut links = [0u16; 8192];
     let mut seen = [0u64; 4096];
     crate::peeling::peel(
         &tab,

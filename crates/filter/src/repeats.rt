@@ -1,14 +1,12 @@
-// IDs noted as they are listed: was one noted already? Chains keyed by the low bits find it without a pass over all of them.
-ghost use mathlib.Core.Path.{_≡_};
-ghost use mathlib.Core.List.{_∷_};
-ghost use Prim.Native.Nat.{_<_, _+_, _%_};
-ghost use Rattle.bucket.specs.Lists.{elem};
-ghost use Rattle.filter.specs.Repeats.{Points, Headed, Chains, upto, Enrolled};
+// IDs noted as they are listed: was one noted already? Each value of the low 12 bits has a tree that branches by the further bits, the lower
+// first. So a search passes at most 53 numbers, whatever the far end sends; of honest numbers one or two.
+ghost use Prim.Native.Nat.{_<_, _%_};
+ghost use Rattle.filter.specs.Repeats.{Headed, Root, Chains, Placed, Enrolled};
 
 // Notes v, unless it was noted before. n numbers have been noted.
 pub(crate) fn enroll(
     heads: &mut [u16; 4096],
-    links: &mut [u16; 4096],
+    links: &mut [u16; 8192],
     seen: &mut [u64; 4096],
     n: usize,
     v: u64,
@@ -16,43 +14,54 @@ pub(crate) fn enroll(
     requires { ⌜ (n < 4096) × Chains n (now heads) (now links) (now seen) ⌝ }
     ensures { λ r. ⌜ Enrolled n v (now (seen .entry)) r (now (heads .exit)) (now (links .exit)) (now (seen .exit)) ⌝ }
 {
-    if is_noted(heads, links, seen, n, v) {
-        return false;
+    let p = find(heads, links, seen, n, v);
+    match p {
+        Place::Noted => return false,
+        Place::Head => heads[(v % 4096) as usize] = (n + 1) as u16,
+        Place::Link(at) => links[at] = (n + 1) as u16,
     }
-    note(heads, links, seen, n, v);
+    // Nothing stands below the new number; an earlier peeling may have left links there.
+    links[2 * n] = 0;
+    links[2 * n + 1] = 0;
+    seen[n] = v;
     true
 }
 
-fn is_noted(heads: &[u16; 4096], links: &[u16; 4096], seen: &[u64; 4096], n: usize, v: u64) -> bool
+// What the search for a number ends at: that number, or the empty place where it belongs.
+enum Place {
+    Noted,
+    Head,
+    Link(usize),
+}
+
+// One walk both finds a repeat and tells where a new number goes.
+fn find(heads: &[u16; 4096], links: &[u16; 8192], seen: &[u64; 4096], n: usize, v: u64) -> Place
     requires { ⌜ Chains n (now heads) (now links) (now seen) ⌝ }
-    ensures { λ r. ⌜ r ≡ elem v (upto (now (seen .entry)) n) ⌝ }
+    ensures { λ r. ⌜ Placed n v (now (heads .entry)) (now (links .entry)) (now (seen .entry)) r ⌝ }
 {
-    let mut p = head(heads, seen, n, v);
-    while p != 0 {
-        let k = p - 1;
-        if seen[k] == v {
-            return true;
-        }
-        p = links[k] as usize;
+    let p = root(heads, seen, n, v);
+    if p == 0 {
+        return Place::Head;
     }
-    false
+    let mut k = p - 1;
+    let mut w = v / 4096;
+    while seen[k] != v {
+        let at = 2 * k + (w % 2) as usize;
+        let next = links[at] as usize;
+        if next == 0 {
+            return Place::Link(at);
+        }
+        k = next - 1;
+        w = w / 2;
+    }
+    Place::Noted
 }
 
-fn note(heads: &mut [u16; 4096], links: &mut [u16; 4096], seen: &mut [u64; 4096], n: usize, v: u64)
-    requires { ⌜ (n < 4096) × Chains n (now heads) (now links) (now seen) ⌝ }
-    ensures { λ r. ⌜ Chains (n + 1) (now (heads .exit)) (now (links .exit)) (now (seen .exit))
-        × (upto (now (seen .exit)) (n + 1) ≡ v ∷ upto (now (seen .entry)) n) ⌝ }
-{
-    let q = (v % 4096) as usize;
-    links[n] = head(heads, seen, n, v) as u16;
-    heads[q] = (n + 1) as u16;
-    seen[n] = v;
-}
-
-// The last number noted in v's chain, counted from 1, or 0. What is left in heads from before is told by the number that it names.
-fn head(heads: &[u16; 4096], seen: &[u64; 4096], n: usize, v: u64) -> usize
+// The first number noted of those with v's low bits, counted from 1, or 0. What is left in heads from before is told by the number that it
+// names.
+fn root(heads: &[u16; 4096], seen: &[u64; 4096], n: usize, v: u64) -> usize
     requires { ⌜ Headed n (now heads) (now seen) ⌝ }
-    ensures { λ r. ⌜ Points (now (seen .entry)) n (v % 4096) r ⌝ }
+    ensures { λ r. ⌜ Root n (now (heads .entry)) (now (seen .entry)) (v % 4096) r ⌝ }
 {
     let q = (v % 4096) as usize;
     let p = heads[q] as usize;

@@ -53,7 +53,7 @@ pub(crate) fn read_all(
         (columns (now (ids .entry)) (now (hashes .entry)) (now (counts .entry)))) ⌝ }
 {
     let mut heads = [0u16; 4096];
-    let mut links = [0u16; 4096];
+    let mut links = [0u16; 8192];
     let mut seen = [0u64; 4096];
     let mut total: u64 = 0;
     let mut n: usize = 32;
@@ -101,7 +101,7 @@ fn read_one(
     hashes: &mut [u32],
     counts: &mut [i64],
     heads: &mut [u16; 4096],
-    links: &mut [u16; 4096],
+    links: &mut [u16; 8192],
     seen: &mut [u64; 4096],
     s: usize,
     salt: u32,
@@ -135,7 +135,7 @@ fn read_part(
     hashes: &mut [u32],
     counts: &mut [i64],
     heads: &mut [u16; 4096],
-    links: &mut [u16; 4096],
+    links: &mut [u16; 8192],
     seen: &mut [u64; 4096],
     salt: u32,
 ) -> Stratum

@@ -180,31 +180,10 @@ least-requires c κs = c .before .loop-test .taken
 add-l-2 : tie.Need-add-l-2 Inv-loop μ-loop
 add-l-2 c = omega (arith, few c, peeling-looked (input (turn c)) (state (turn c)) (turn c .loop .inv))
 
-add-last : tie.Need-add-t57 Inv-loop μ-loop
-add-last c =
+add-l-3 : tie.Need-add-l-3 Inv-loop μ-loop
+add-l-3 c =
     let l = c .before in
     omega (arith, l .loop .inv .fit .sound .most, peeling-looked (input l) (state l) (l .loop .inv))
-
-slice-read-h : tie.Need-slice-read-h Inv-loop μ-loop
-slice-read-h c = omega (arith, inside (c .before .before), wide (turn (c .before .before)) .hashsums)
-
-slice-copy-out-s : tie.Need-slice-copy-out-s Inv-loop μ-loop
-slice-copy-out-s c = omega (arith, inside (c .before .before), wide (turn (c .before .before)) .counts)
-
-same-length : tie.Need-same-length Inv-loop μ-loop
-same-length c = lengths (head (c .before)) .0
-
-same-length-2 : tie.Need-same-length-2 Inv-loop μ-loop
-same-length-2 c = lengths (head (c .before)) .1
-
-same-length-3 : tie.Need-same-length-3 Inv-loop μ-loop
-same-length-3 c = lengths (head (c .before)) .2
-
-same-length-4 : tie.Need-same-length-4 Inv-loop μ-loop
-same-length-4 c = same-ours (head (c .before))
-
-same-length-5 : tie.Need-same-length-5 Inv-loop μ-loop
-same-length-5 c = same-theirs (head (c .before))
 
 returns : tie.Need-returns Inv-loop μ-loop
 returns c =
@@ -283,21 +262,6 @@ loop-again c =
     (r .result) (other .if1 .left) refl refl (r .ensures) (entered .before .before .before .if2 .taken) (t .ensures .0) (t .ensures .1)
     (e .ensures (input l .ours) (input l .theirs) (p .acc) (same-ours l) (same-theirs l) (p .listed))
 
-same-length-6 : tie.Need-same-length-6 Inv-loop μ-loop
-same-length-6 c = lengths (head (c .before .before .before .before .before .before)) .0
-
-same-length-7 : tie.Need-same-length-7 Inv-loop μ-loop
-same-length-7 c = lengths (head (c .before .before .before .before .before .before)) .1
-
-same-length-8 : tie.Need-same-length-8 Inv-loop μ-loop
-same-length-8 c = lengths (head (c .before .before .before .before .before .before)) .2
-
-same-length-9 : tie.Need-same-length-9 Inv-loop μ-loop
-same-length-9 c = same-ours (head (c .before .before .before .before .before .before))
-
-same-length-10 : tie.Need-same-length-10 Inv-loop μ-loop
-same-length-10 c = same-theirs (head (c .before .before .before .before .before .before))
-
 returns-2 : tie.Need-returns-2 Inv-loop μ-loop
 returns-2 c =
     let r = c .before .enroll in
@@ -306,32 +270,24 @@ returns-2 c =
     peeling-repeated (input l) (state l) (l .loop .inv) (found u) (r .result) (r .last .0) (r .last .1 .0) (r .last .1 .1 .0) (r .ensures)
     (c .if2 .left)
 
-same-length-11 : tie.Need-same-length-11 Inv-loop μ-loop
-same-length-11 c = lengths (c .before) .0
-
-same-length-12 : tie.Need-same-length-12 Inv-loop μ-loop
-same-length-12 c = lengths (c .before) .1
-
-same-length-13 : tie.Need-same-length-13 Inv-loop μ-loop
-same-length-13 c = lengths (c .before) .2
-
-same-length-14 : tie.Need-same-length-14 Inv-loop μ-loop
-same-length-14 c = same-ours (c .before)
-
-same-length-15 : tie.Need-same-length-15 Inv-loop μ-loop
-same-length-15 c = same-theirs (c .before)
-
 returns-3 : tie.Need-returns-3 Inv-loop μ-loop
 returns-3 c =
     let l = c .before in peeling-done (input l) (state l) (l .loop .inv) (c .loop-test .left)
+
+-- the slices keep their lengths, wherever the peeling ends
+abbrev repeated : tie.Else2 Inv-loop μ-loop → tie.At-loop Inv-loop μ-loop
+repeated c = head (c .before .before .before .before .before .before)
 
 pub peel-spec : {M : Type 1} → statement M
 peel-spec =
     tie.close
     (tie.spec
     Inv-loop μ-loop survey-requires loop-holds least-requires (λ c. omega (arith, few c)) add-l-2 (λ c. omega (arith, few c))
-    (λ c. omega (arith, inside (c .before), wide (turn (c .before)) .idsums)) (λ c. omega (arith, few (c .before))) slice-read-h
-    (λ c. omega (arith, few (c .before .before))) slice-copy-out-s (λ c κs. search needs) same-length same-length-2 same-length-3
-    same-length-4 same-length-5 returns enroll-requires enter-requires take-out-requires add-m loop-less loop-again same-length-6
-    same-length-7 same-length-8 same-length-9 same-length-10 returns-2 add-last same-length-11 same-length-12 same-length-13 same-length-14
-    same-length-15 returns-3)
+    (λ c. omega (arith, inside (c .before), wide (turn (c .before)) .idsums)) (λ c. omega (arith, few (c .before)))
+    (λ c. omega (arith, inside (c .before .before), wide (turn (c .before .before)) .hashsums)) (λ c. omega (arith, few (c .before .before)))
+    (λ c. omega (arith, inside (c .before .before), wide (turn (c .before .before)) .counts)) (λ c κs. search needs)
+    (λ c. lengths (head (c .before)) .0) (λ c. lengths (head (c .before)) .1) (λ c. lengths (head (c .before)) .2) (λ c. same-ours (head (c .before)))
+    (λ c. same-theirs (head (c .before))) returns enroll-requires enter-requires take-out-requires add-m loop-less loop-again
+    (λ c. lengths (repeated c) .0) (λ c. lengths (repeated c) .1) (λ c. lengths (repeated c) .2) (λ c. same-ours (repeated c))
+    (λ c. same-theirs (repeated c)) returns-2 add-l-3 (λ c. lengths (c .before) .0) (λ c. lengths (c .before) .1) (λ c. lengths (c .before) .2)
+    (λ c. same-ours (c .before)) (λ c. same-theirs (c .before)) returns-3)

@@ -68,7 +68,7 @@ peel-requires c κs =
       subst (Small (a .size) (2 ^ 34)) (sym e)
           (small-difference (filterRule (a .size) (a .salt)) (idsOf firstEight (a .table .now)) (a .size) (received s) (r .wide) (r .counts)
           (omega (arith, ids-length firstEight (a .table .now), table-count (a .table .now) (r .table)))),
-      chains-start 4096 refl,
+      chains-start 4096 8192 refl refl,
     )
 
 same-length : tie.Need-same-length
@@ -92,8 +92,7 @@ returns c =
     let d = p .before in
     let s = start d in
     let a = s .args in
-    let k = counted d .place-count in
-    (
+    let k = counted d .place-count in (
       peels-call (a .size) (a .salt) (placeCount (a .size)) (minus s) (received s) (s .pre .received .wide) (k .result) (k .ensures)
           (subtracted d .subtract .ensures) (ours-cleared d .clear-list .ensures) (theirs-cleared d .clear-list2 .ensures) (p .peel .ensures .0),
       looked-call (a .size) (a .salt) (placeCount (a .size)) (minus s) (received s) (s .pre .received .wide) (k .result) (k .ensures)

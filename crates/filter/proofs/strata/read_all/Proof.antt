@@ -22,7 +22,7 @@ loop-holds : tie.Need-loop-holds Inv-loop μ-loop
 loop-holds c =
     let s = c .before .before in
     tally-start (s .args .salt) (columns (now (s .args .ids)) (now (s .args .hashes)) (now (s .args .counts))) _ _ _ (s .pre .2) (s .pre .3)
-    (chains-start 4096 refl)
+    (chains-start 4096 8192 refl refl)
 
 read-one-requires : tie.Need-read-one-requires Inv-loop μ-loop
 read-one-requires c κs =
