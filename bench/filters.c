@@ -268,8 +268,8 @@ static int refusals_agree(void)
      "filter::peeling::peel", "c_peel", size, 4096 - ours, ours, 0, limit, 0}
 
 /* Nothing is ours, and theirs is made to take long: columns of the longest reading found, and tables
- * whose IDs are alike in their low bits. The number of these stands where that of common elements
- * does, which there are none of. */
+ * whose IDs are alike in so many low bits. The field common has that number of bits; no element is
+ * common. */
 #define LONG(size, limit)                                                                      \
     {"read_longest_" #size, "read, the longest found at " #size, "tandawire_read", "c_read",   \
      size, 0, 0, 0, limit, 0}
@@ -291,7 +291,8 @@ static const struct job jobs[] = {
     READ(500, 500, 4093, 0),       READ(500, 500, 4096, 0),
     READ(1250, 1250, 4093, 0),     READ(1250, 1250, 4096, 0),
     LONG(4096, 2200000),           ALIKE(0, 3000, 4093, 1800000),
-    ALIKE(12, 3000, 4093, 2100000), ALIKE(52, 3000, 4093, 3400000),
+    ALIKE(12, 3000, 4093, 2100000),
+    ALIKE(52, 3000, 4093, 3400000),
 };
 enum { JOBS = sizeof jobs / sizeof jobs[0] };
 

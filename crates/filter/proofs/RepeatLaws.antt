@@ -16,7 +16,7 @@ use Rattle.bucket.specs.Lists.{elem}
 use Rattle.bucket.proofs.ListLaws.{elem-head, elem-tail}
 use Rattle.filter.specs.declared.repeats.Place.{Place}
 use Rattle.filter.specs.declared.repeats.Place.the-variants.{Noted, Head, Link}
-use Rattle.filter.specs.Repeats.{upto, Live, child, Leads, here, next, Led, Spot, below, Chains, Ends, Placed, Enrolled}
+use Rattle.filter.specs.Repeats.{upto, Live, child, Leads, here, next, Led, Spot, below, Trees, Ends, Placed, Enrolled}
 
 -- ---- the numbers noted
 
@@ -57,10 +57,10 @@ zeros-fit (suc n) (suc q) = zeros-fit n q
 abbrev root : ℕ → Spot
 root q = record { span = 4096; path = q }
 
-chains-none : (heads links seen : List ℕ) → length heads ≡ 4096 → length links ≡ 8192 → length seen ≡ 4096
+trees-none : (heads links seen : List ℕ) → length heads ≡ 4096 → length links ≡ 8192 → length seen ≡ 4096
     → ((q : ℕ) → getD heads q 0 ≤ 4096)
-    → Chains 0 heads links seen
-chains-none heads links seen h l s f = record {
+    → Trees 0 heads links seen
+trees-none heads links seen h l s f = record {
   headed = record { few = zero-le; heads-len = h; seen-len = s; heads-fit = f };
   links-len = l;
   stands = λ j a. absurd (omega arith);
@@ -69,15 +69,15 @@ chains-none heads links seen h l s f = record {
   later = λ i a. absurd (omega arith);
 }
 
-pub chains-start : (n m : ℕ) → n ≡ 4096 → m ≡ 8192 → Chains 0 (replicate n 0) (replicate m 0) (replicate n 0)
-chains-start n m e f =
+pub trees-start : (n m : ℕ) → n ≡ 4096 → m ≡ 8192 → Trees 0 (replicate n 0) (replicate m 0) (replicate n 0)
+trees-start n m e f =
     let w = length-replicate {A = ℕ} n 0 ∙ e in
-    chains-none (replicate n 0) (replicate m 0) (replicate n 0) w (length-replicate {A = ℕ} m 0 ∙ f) w (zeros-fit n)
+    trees-none (replicate n 0) (replicate m 0) (replicate n 0) w (length-replicate {A = ℕ} m 0 ∙ f) w (zeros-fit n)
 
 -- what was noted is left there, and counts as none
-pub chains-again : (n : ℕ) (heads links seen : List ℕ) → Chains n heads links seen → Chains 0 heads links seen
-chains-again n heads links seen c =
-    chains-none heads links seen (c .headed .heads-len) (c .links-len) (c .headed .seen-len) (c .headed .heads-fit)
+pub trees-again : (n : ℕ) (heads links seen : List ℕ) → Trees n heads links seen → Trees 0 heads links seen
+trees-again n heads links seen c =
+    trees-none heads links seen (c .headed .heads-len) (c .links-len) (c .headed .seen-len) (c .headed .heads-fit)
 
 -- ---- the search
 
@@ -101,7 +101,7 @@ pub record Search (n v : ℕ) (heads links seen : List ℕ) (k w : ℕ) : Type 0
   pub came : Led n v heads links seen k w
   pub goes : (j : ℕ) → j < n → getD seen j 0 ≡ v → (u : ℕ) × Leads links j u k w
 
-module _ {n : ℕ} {heads links seen : List ℕ} (v : ℕ) (c : Chains n heads links seen) where
+module _ {n : ℕ} {heads links seen : List ℕ} (v : ℕ) (c : Trees n heads links seen) where
   stood : (j : ℕ) (l : j < n) → getD seen j 0 ≡ v → Led n v heads links seen j (c .stands j l .0)
   stood j l e = subst (λ (x : ℕ). Led n x heads links seen j (c .stands j l .0)) e (c .stands j l .1)
 
@@ -147,7 +147,7 @@ bit-further w s p =
     ap (λ (x : ℕ). x * s + p) (sym (div-add-mod' w 2)) ∙ ap (λ (x : ℕ). x + p) (add-mul (w / 2 * 2) (w % 2) s)
     ∙ ap (λ (x : ℕ). x + w % 2 * s + p) (mul-assoc (w / 2) 2 s) ∙ omega arith
 
-module _ {n : ℕ} {heads links seen : List ℕ} (c : Chains n heads links seen) where
+module _ {n : ℕ} {heads links seen : List ℕ} (c : Trees n heads links seen) where
   -- the bits to come at a number, above those that lead to it
   spanned : {j u k w : ℕ} (r : Leads links j u k w) → k < n → {x : ℕ} → x ≡ w * c .spots k .span + c .spots k .path
       → (x ≡ u * c .spots j .span + c .spots j .path) × (c .spots j .span ≡ c .spots k .span * 2 ^ steps r)
@@ -215,7 +215,7 @@ module _ (f : ℕ → Spot) (n : ℕ) (s : Spot) where
   spot-old k l = rw (ne-eqb k n (λ e. omega arith)) refl
 
 -- Trees of n numbers, and another at an empty place: heads and links change only where they led to no number.
-module _ {n : ℕ} {heads links seen : List ℕ} (v : ℕ) (room : n < 4096) (c : Chains n heads links seen) where
+module _ {n : ℕ} {heads links seen : List ℕ} (v : ℕ) (room : n < 4096) (c : Trees n heads links seen) where
   new : getD (set seen n v) n 0 ≡ v
   new = getD-set-same seen n v 0 (omega (arith, c .headed .seen-len))
 
@@ -262,8 +262,8 @@ module _ {n : ℕ} {heads links seen : List ℕ} (v : ℕ) (room : n < 4096) (c 
         → Enrolled n v seen true heads′ (cleared n links′) (set seen n v)
     enrolled s hl ll fit top linked (u, led) none = record {
       fresh = ap not (sym none);
-      again = chains-again (n + 1) heads′ (cleared n links′) (set seen n v) more;
-      chains = λ _. more;
+      again = trees-again (n + 1) heads′ (cleared n links′) (set seen n v) more;
+      trees = λ _. more;
       now-last = λ _. upto-noted seen n v (omega (arith, c .headed .seen-len));
     }
       where
@@ -289,7 +289,7 @@ module _ {n : ℕ} {heads links seen : List ℕ} (v : ℕ) (room : n < 4096) (c 
             let (w, old) = c .stands j (omega (arith, eqb-false j n e)) in
             rw (getD-set-other seen n j v 0 (eqb-false j n e)) (w, led-kept old)
 
-        more : Chains (n + 1) heads′ (cleared n links′) (set seen n v)
+        more : Trees (n + 1) heads′ (cleared n links′) (set seen n v)
         more = record {
           headed = record { few = omega arith; heads-len = hl; seen-len = length-set seen n v ∙ c .headed .seen-len; heads-fit = fit };
           links-len = simp length-set ll;
@@ -305,8 +305,8 @@ module _ {n : ℕ} {heads links seen : List ℕ} (v : ℕ) (room : n < 4096) (c 
     unfolding Placed
     enrolled-noted e = record {
       fresh = ap not (sym (subst (Placed n v heads links seen) e found));
-      again = chains-again n heads links seen c;
-      chains = λ f. absurd (false≢true f);
+      again = trees-again n heads links seen c;
+      trees = λ f. absurd (false≢true f);
       now-last = λ f. absurd (false≢true f);
     }
 

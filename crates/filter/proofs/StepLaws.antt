@@ -19,12 +19,12 @@ use Rattle.filter.specs.Calls.{filled}
 use Rattle.filter.specs.Filter.{Item, idOf, ids, Rule, rule}
 use Rattle.filter.specs.Peeling.{sided, reach, again, take, Outcome, next, reading, looked, remove, isPure}
 use Rattle.filter.specs.Marks.{Marks, Least}
-use Rattle.filter.specs.Repeats.{Chains, Enrolled, upto}
+use Rattle.filter.specs.Repeats.{Trees, Enrolled, upto}
 use Rattle.filter.specs.Steps.{Wide, Small, Sound, spread, shows, Listed, Peels}
 use Rattle.filter.proofs.FilledLaws.{filled-is-lengths, filled-filled, filled-view, view-filled-in, view-filled-out, wide-same}
 use Rattle.filter.proofs.SpreadLaws.{small-more, small-spread}
 use Rattle.filter.proofs.MarkLaws.{marks-empty}
-use Rattle.filter.proofs.RepeatLaws.{chains-again}
+use Rattle.filter.proofs.RepeatLaws.{trees-again}
 use Rattle.filter.proofs.PeelLaws.{
   looks,
   first-pure,
@@ -85,7 +85,7 @@ pureIn n c = shows (rule (n .k) (n .size) 0) (view c)
 abbrev pub Ends : Input → State → List ℕ → List ℕ → List ℕ → Bool → ℕ → Type 0
 Ends n g heads links seen fine l =
     Peels (n .size) (reading (ruleOf n) (view (n .columns))) (n .columns) (n .ours) (n .theirs) fine (g .columns) (g .ours) (g .theirs) (g .a) (g .t)
-    × Chains 0 heads links seen
+    × Trees 0 heads links seen
     × (l ≡ looked (ruleOf n) (view (n .columns)))
 
 pub record Fit (n : Input) : Type 0 where
@@ -102,7 +102,7 @@ pub record Peeling (n : Input) (g : State) : Type 0 where
   pub few : g .made ≤ n .size
   pub small : Small (n .size) (2 ^ 34 + g .made) (g .columns)
   pub marks : Marks (pureIn n (g .columns)) (g .bits) (g .top)
-  pub chains : Chains (g .made) (g .heads) (g .links) (g .seen)
+  pub trees : Trees (g .made) (g .heads) (g .links) (g .seen)
   pub noted : ids acc ≡ upto (g .seen) (g .made)
   pub listed : Listed (n .ours) (n .theirs) acc (g .ours) (g .theirs) (g .a) (g .t)
   pub inv : Inv (ruleOf n) (view (n .columns)) (n .size - g .made) acc (view (g .columns)) (g .looked)
@@ -139,7 +139,7 @@ begun n bits heads links seen top =
       looked = 0;
     }
 
-pub peeling-start : (n : Input) (bits heads links seen : List ℕ) (top : ℕ) → Fit n → Chains 0 heads links seen
+pub peeling-start : (n : Input) (bits heads links seen : List ℕ) (top : ℕ) → Fit n → Trees 0 heads links seen
     → Marks (pureIn n (n .columns)) bits top
     → Peeling n (begun n bits heads links seen top)
 unfolding upto
@@ -150,7 +150,7 @@ peeling-start n bits heads links seen top f c m = record {
   few = zero-le;
   small = small-more (n .size) (2 ^ 34) (2 ^ 34 + 0) (n .columns) (omega arith) (f .small);
   marks = m;
-  chains = c;
+  trees = c;
   noted = refl;
   listed = listed-nothing (n .ours) (n .theirs);
   inv = subst (λ (j : ℕ). Inv (ruleOf n) (view (n .columns)) j [] (view (n .columns)) 0) (sym (sub-zero (n .size)))
@@ -172,8 +172,8 @@ module _ (n : Input) (g : State) (p : Peeling n g) where
       small-more (n .size) (2 ^ 34 + g .made) (2 ^ 60) (g .columns) (omega (arith, p .few, p .fit .sound .most)) (p .small)
 
   -- the arrays may be lent again
-  pub peeling-again : Chains 0 (g .heads) (g .links) (g .seen)
-  peeling-again = chains-again (g .made) (g .heads) (g .links) (g .seen) (p .chains)
+  pub peeling-again : Trees 0 (g .heads) (g .links) (g .seen)
+  peeling-again = trees-again (g .made) (g .heads) (g .links) (g .seen) (p .trees)
 
   pub peeling-count : g .a + g .t ≡ g .made
   peeling-count = listed-count (n .ours) (n .theirs) (p .acc) (g .ours) (g .theirs) (g .a) (g .t) (p .listed) ∙ p .many
@@ -312,7 +312,7 @@ module _ (n : Input) (g : State) (p : Peeling n g) where
           (small-spread (n .size) (2 ^ 34 + g .made) (places (n .k) (n .size) (f .h)) (neg (bucket (f .x) (f .h) (f .z))) (g .columns) (g′ .columns)
           (omega (arith, found-abs, abs-neg (bucket (f .x) (f .h) (f .z)))) inside (p .small));
       marks = marks;
-      chains = subst (λ (j : ℕ). Chains j (g′ .heads) (g′ .links) (g′ .seen)) (sym one) (d .chains e);
+      trees = subst (λ (j : ℕ). Trees j (g′ .heads) (g′ .links) (g′ .seen)) (sym one) (d .trees e);
       noted = ap₂ {B = List ℕ} (λ (v : ℕ) (q : List ℕ). v ∷ q) (id-sided (f .z) (f .id)) (p .noted)
           ∙ sym (d .now-last e) ∙ ap (upto (g′ .seen)) (sym one);
       listed = listed;

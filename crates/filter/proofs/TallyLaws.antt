@@ -18,7 +18,7 @@ use Rattle.filter.specs.declared.strata.Stratum.the-variants.{Lists, Fai
 use Rattle.filter.specs.Peeling.{Outcome, allZero, verdictBy, isComplete, reading}
 use Rattle.filter.specs.Calls.{filled}
 use Rattle.filter.specs.Estimator.{stratumRule, stratum, strataVerdict, readingAt, readings, sampled, estimateOf, leftBy, leftAt, remaining}
-use Rattle.filter.specs.Repeats.{Chains}
+use Rattle.filter.specs.Repeats.{Trees}
 use Rattle.filter.specs.Steps.{Wide, Small, Peels, counted}
 use Rattle.filter.proofs.FilledLaws.{
   lengths-refl,
@@ -112,9 +112,9 @@ pub record Tally (salt : ℕ) (c₀ c : Columns) (heads links seen : List ℕ) (
   pub bound : total ≤ 79 * (32 - n)
   pub estimate : estimateOf total (readings salt n (view c)) ≡ estimateOf 0 (readings salt 32 (view c₀))
   pub left : filled 2528 (remaining salt n (view c)) c ≡ filled 2528 (remaining salt 32 (view c₀)) c₀
-  pub chains : Chains 0 heads links seen
+  pub trees : Trees 0 heads links seen
 
-pub tally-start : (salt : ℕ) (c : Columns) (heads links seen : List ℕ) → Wide 2528 c → Small 2528 (2 ^ 34) c → Chains 0 heads links seen
+pub tally-start : (salt : ℕ) (c : Columns) (heads links seen : List ℕ) → Wide 2528 c → Small 2528 (2 ^ 34) c → Trees 0 heads links seen
     → Tally salt c c heads links seen 0 32
 tally-start salt c heads links seen w s h = record {
   few = omega arith;
@@ -124,7 +124,7 @@ tally-start salt c heads links seen w s h = record {
   bound = omega arith;
   estimate = refl;
   left = refl;
-  chains = h;
+  trees = h;
 }
 
 module _ (salt m : ℕ) (c c′ : Columns) (h : m < 32) (w : Wide 2528 c) (e : c′ ≡ filled 2528 (leftAt salt m (view c)) c) where
@@ -166,9 +166,9 @@ module _ {salt : ℕ} {c₀ c : Columns} {heads links seen : List ℕ} {total : 
     now-at = subst (Tally salt c₀ c heads links seen total) p t
 
     -- stratum m is complete
-    pub tally-next : {listed : ℕ} {heads′ links′ seen′ : List ℕ} → Lists listed ≡ counted (readingAt salt m (view c)) → Chains 0 heads′ links′ seen′
+    pub tally-next : {listed : ℕ} {heads′ links′ seen′ : List ℕ} → Lists listed ≡ counted (readingAt salt m (view c)) → Trees 0 heads′ links′ seen′
         → Tally salt c₀ c′ heads′ links′ seen′ (total + listed) m
-    tally-next {listed} k chains =
+    tally-next {listed} k trees =
         let ended = lists (readingAt salt m (view c)) k in
         let in-range : m < 32 = omega (arith, now-at .few) in
         let same = filled-is-lengths 2528 (leftAt salt m (view c)) c c′ e in record {
@@ -179,7 +179,7 @@ module _ {salt : ℕ} {c₀ c : Columns} {heads links seen : List ℕ} {total : 
           bound = omega (arith, now-at .bound, in-range, lists-few salt (stratum m (view c)) k);
           estimate = next-estimate salt m c c′ in-range (t .wide) e total listed (ended .0) (ended .1) ∙ now-at .estimate;
           left = next-left salt m c c′ in-range (t .wide) e (ended .0) ∙ now-at .left;
-          chains = chains;
+          trees = trees;
         }
 
     -- stratum m is not complete

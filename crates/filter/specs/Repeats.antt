@@ -1,12 +1,13 @@
 -- Numbers noted one after the other, in trees: those that leave the same modulo 4,096 are one tree, which branches by the further bits, the
--- lower first. A repeat is found by walking down one tree, a short walk whatever the numbers are (RepeatLaws.walk-short). Cited by private functions
--- alone.
+-- lower first. A repeat is found by walking down one tree, a short walk whatever the numbers are (RepeatLaws.walk-short). Cited by private
+-- functions alone.
 --
 --   upto seen n                  the first n of the numbers, last first
 --   Live n heads seen q          the head q names one of the first n numbers that leaves q
 --   Leads links j u k w          from number k, with the bits w to come, the links lead to number j, with the bits u to come
 --   Led n v .. k u               from the head of its low bits, the bits of v lead to number k, with the bits u to come
---   Chains n ..                  each of the first n numbers stands where its bits lead, and one bit more leads to each below another
+--   Spot, below                  where a number stands, by the bits that lead there, and where one bit more leads
+--   Trees n ..                   each of the first n numbers stands where its bits lead, and one bit more leads to each below another
 --   Placed ..                    where the search for v ends
 --   Enrolled ..                  v is noted, unless it was noted before
 --
@@ -54,7 +55,7 @@ pub record Headed (n : ℕ) (heads seen : List ℕ) : Type 0 where
   pub seen-len : length seen ≡ 4096
   pub heads-fit : (q : ℕ) → getD heads q 0 ≤ 4096
 
--- where a number stands: the bits that lead to it, as a number below the span, and where the next bit leads from there
+-- the bits that lead to a number, as a number below the span
 pub record Spot : Type 0 where
   pub span : ℕ
   pub path : ℕ
@@ -62,8 +63,8 @@ pub record Spot : Type 0 where
 abbrev pub below : Spot → ℕ → Spot
 below s b = record { span = 2 * s .span; path = s .path + b * s .span }
 
--- Each link names a later number or none.
-pub record Chains (n : ℕ) (heads links seen : List ℕ) : Type 0 where
+-- Each link names a later number or none. The spots are for `walk-short` alone: nothing that the code does goes by them.
+pub record Trees (n : ℕ) (heads links seen : List ℕ) : Type 0 where
   pub headed : Headed n heads seen
   pub links-len : length links ≡ 8192
   pub stands : (j : ℕ) → j < n → (u : ℕ) × Led n (getD seen j 0) heads links seen j u
@@ -88,6 +89,6 @@ Placed n v heads links seen (Link at) = (elem v (upto seen n) ≡ false) × Ends
 
 pub record Enrolled (n v : ℕ) (seen₀ : List ℕ) (r : Bool) (heads links seen : List ℕ) : Type 0 where
   pub fresh : r ≡ not (elem v (upto seen₀ n))
-  pub again : Chains 0 heads links seen
-  pub chains : r ≡ true → Chains (n + 1) heads links seen
+  pub again : Trees 0 heads links seen
+  pub trees : r ≡ true → Trees (n + 1) heads links seen
   pub now-last : r ≡ true → upto seen (n + 1) ≡ v ∷ upto seen₀ n

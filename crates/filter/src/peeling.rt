@@ -14,7 +14,7 @@ ghost use Rattle.filter.specs.Filter.{Item, rule};
 ghost use Rattle.filter.specs.Peeling.{sided, reading, looked};
 ghost use Rattle.filter.specs.Calls.{filled};
 ghost use Rattle.filter.specs.Marks.{Marks};
-ghost use Rattle.filter.specs.Repeats.{Chains};
+ghost use Rattle.filter.specs.Repeats.{Trees};
 ghost use Rattle.filter.specs.Steps.{Wide, Small, Sound, spread, shows, Listed, Peels};
 
 // How a peeling ended: in order or not, the lengths of the two lists, and how many buckets looks from bucket 0 would have gone over.
@@ -43,11 +43,11 @@ pub(crate) fn peel(
 ) -> Peeled
     requires { ⌜ (now tab ≡ crcTables) × Sound size k salt × Wide size (columns (now ids) (now hashes) (now counts))
         × (size ≤ length (now ours)) × (size ≤ length (now theirs)) × Small size (2 ^ 34) (columns (now ids) (now hashes) (now counts))
-        × Chains 0 (now heads) (now links) (now seen) ⌝ }
+        × Trees 0 (now heads) (now links) (now seen) ⌝ }
     ensures { λ r. ⌜ Peels size (reading (rule k size salt) (view (columns (now (ids .entry)) (now (hashes .entry)) (now (counts .entry)))))
         (columns (now (ids .entry)) (now (hashes .entry)) (now (counts .entry))) (now (ours .entry)) (now (theirs .entry)) (r .fine)
         (columns (now (ids .exit)) (now (hashes .exit)) (now (counts .exit))) (now (ours .exit)) (now (theirs .exit)) (r .ours) (r .theirs)
-        × Chains 0 (now (heads .exit)) (now (links .exit)) (now (seen .exit))
+        × Trees 0 (now (heads .exit)) (now (links .exit)) (now (seen .exit))
         × (r .looked ≡ looked (rule k size salt) (view (columns (now (ids .entry)) (now (hashes .entry)) (now (counts .entry))))) ⌝ }
 {
     let n = size as usize;

@@ -1,7 +1,7 @@
 // IDs noted as they are listed: was one noted already? Each value of the low 12 bits has a tree that branches by the further bits, the lower
-// first. So a search passes at most 53 numbers, whatever the far end sends; of honest numbers one or two.
+// first. So a search looks at 53 numbers at most, whatever the far end sends; where it is honest, at one or two.
 ghost use Prim.Native.Nat.{_<_, _%_};
-ghost use Rattle.filter.specs.Repeats.{Headed, Root, Chains, Placed, Enrolled};
+ghost use Rattle.filter.specs.Repeats.{Headed, Root, Trees, Placed, Enrolled};
 
 // Notes v, unless it was noted before. n numbers have been noted.
 pub(crate) fn enroll(
@@ -11,7 +11,7 @@ pub(crate) fn enroll(
     n: usize,
     v: u64,
 ) -> bool
-    requires { ⌜ (n < 4096) × Chains n (now heads) (now links) (now seen) ⌝ }
+    requires { ⌜ (n < 4096) × Trees n (now heads) (now links) (now seen) ⌝ }
     ensures { λ r. ⌜ Enrolled n v (now (seen .entry)) r (now (heads .exit)) (now (links .exit)) (now (seen .exit)) ⌝ }
 {
     let p = find(heads, links, seen, n, v);
@@ -36,7 +36,7 @@ enum Place {
 
 // One walk both finds a repeat and tells where a new number goes.
 fn find(heads: &[u16; 4096], links: &[u16; 8192], seen: &[u64; 4096], n: usize, v: u64) -> Place
-    requires { ⌜ Chains n (now heads) (now links) (now seen) ⌝ }
+    requires { ⌜ Trees n (now heads) (now links) (now seen) ⌝ }
     ensures { λ r. ⌜ Placed n v (now (heads .entry)) (now (links .entry)) (now (seen .entry)) r ⌝ }
 {
     let p = root(heads, seen, n, v);

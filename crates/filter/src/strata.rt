@@ -6,7 +6,7 @@ ghost use Rattle.bucket.specs.Crc.{crcTables};
 ghost use Rattle.filter.specs.Peeling.{reading};
 ghost use Rattle.filter.specs.Calls.{filled};
 ghost use Rattle.filter.specs.Estimator.{stratumRule, strataVerdict, readingAt, readings, sampled, estimateOf, leftBy, leftAt, remaining, less};
-ghost use Rattle.filter.specs.Repeats.{Chains};
+ghost use Rattle.filter.specs.Repeats.{Trees};
 ghost use Rattle.filter.specs.Steps.{Wide, Small, counted};
 use crate::answers::Estimate;
 
@@ -107,12 +107,12 @@ fn read_one(
     salt: u32,
 ) -> Stratum
     requires { ⌜ (now tab ≡ crcTables) × (salt < 64) × (s < 32) × Wide 2528 (columns (now ids) (now hashes) (now counts))
-        × Small (79 * (s + 1)) (2 ^ 34) (columns (now ids) (now hashes) (now counts)) × Chains 0 (now heads) (now links) (now seen) ⌝ }
+        × Small (79 * (s + 1)) (2 ^ 34) (columns (now ids) (now hashes) (now counts)) × Trees 0 (now heads) (now links) (now seen) ⌝ }
     ensures { λ r. ⌜ (r ≡ counted (readingAt salt s (view (columns (now (ids .entry)) (now (hashes .entry)) (now (counts .entry))))))
         × (columns (now (ids .exit)) (now (hashes .exit)) (now (counts .exit))
         ≡ filled 2528 (leftAt salt s (view (columns (now (ids .entry)) (now (hashes .entry)) (now (counts .entry)))))
         (columns (now (ids .entry)) (now (hashes .entry)) (now (counts .entry))))
-        × Chains 0 (now (heads .exit)) (now (links .exit)) (now (seen .exit)) ⌝ }
+        × Trees 0 (now (heads .exit)) (now (links .exit)) (now (seen .exit)) ⌝ }
 {
     let a = 79 * s;
     let e = a + 79;
@@ -140,13 +140,13 @@ fn read_part(
     salt: u32,
 ) -> Stratum
     requires { ⌜ (now tab ≡ crcTables) × (salt < 64) × Wide 79 (columns (now ids) (now hashes) (now counts))
-        × Small 79 (2 ^ 34) (columns (now ids) (now hashes) (now counts)) × Chains 0 (now heads) (now links) (now seen) ⌝ }
+        × Small 79 (2 ^ 34) (columns (now ids) (now hashes) (now counts)) × Trees 0 (now heads) (now links) (now seen) ⌝ }
     ensures { λ r. ⌜ (r ≡ counted (reading (stratumRule salt) (view (columns (now (ids .entry)) (now (hashes .entry)) (now (counts .entry))))))
         × (columns (now (ids .exit)) (now (hashes .exit)) (now (counts .exit))
         ≡ filled 79 (leftBy (strataVerdict (reading (stratumRule salt) (view (columns (now (ids .entry)) (now (hashes .entry)) (now (counts .entry))))))
         (reading (stratumRule salt) (view (columns (now (ids .entry)) (now (hashes .entry)) (now (counts .entry))))))
         (columns (now (ids .entry)) (now (hashes .entry)) (now (counts .entry))))
-        × Chains 0 (now (heads .exit)) (now (links .exit)) (now (seen .exit)) ⌝ }
+        × Trees 0 (now (heads .exit)) (now (links .exit)) (now (seen .exit)) ⌝ }
 {
     let mut ours = [0u64; 79];
     let mut theirs = [0u64; 79];

@@ -195,7 +195,7 @@ enroll-requires c κs =
     let other = c .before .before .before in
     let l = head (other .before) in
     let p = l .loop .inv in
-    (omega (arith, p .few, peeling-count (input l) (state l) p, other .if1 .left, p .fit .sound .most), p .chains)
+    (omega (arith, p .few, peeling-count (input l) (state l) p, other .if1 .left, p .fit .sound .most), p .trees)
 
 enter-requires : tie.Need-enter-requires Inv-loop μ-loop
 enter-requires c κs =

@@ -13,7 +13,7 @@ use Rattle.filter.specs.Filter.{filterRule, difference}
 use Rattle.filter.specs.Steps.{Wide, Small}
 use Rattle.filter.proofs.FilledLaws.{wide-filled}
 use Rattle.filter.proofs.PartLaws.{range-sound, small-difference}
-use Rattle.filter.proofs.RepeatLaws.{chains-start}
+use Rattle.filter.proofs.RepeatLaws.{trees-start}
 use Rattle.filter.proofs.TableLaws.{table-count, ids-length}
 use Rattle.filter.proofs.CallLaws.{listed-length, peels-call, looked-call}
 use borrow.Author.Needs.{needs}
@@ -68,7 +68,7 @@ peel-requires c κs =
       subst (Small (a .size) (2 ^ 34)) (sym e)
           (small-difference (filterRule (a .size) (a .salt)) (idsOf firstEight (a .table .now)) (a .size) (received s) (r .wide) (r .counts)
           (omega (arith, ids-length firstEight (a .table .now), table-count (a .table .now) (r .table)))),
-      chains-start 4096 8192 refl refl,
+      trees-start 4096 8192 refl refl,
     )
 
 same-length : tie.Need-same-length

@@ -6,7 +6,7 @@ use mathlib.Core.Path.{refl, sym, _∙_}
 use borrow.Author.Needs.{needs}
 use denote.Ref.{now}
 use Rattle.bucket.specs.Columns.{columns}
-use Rattle.filter.proofs.RepeatLaws.{chains-start}
+use Rattle.filter.proofs.RepeatLaws.{trees-start}
 use Rattle.filter.proofs.TallyLaws.{lists-few, Tally, tally-start, tally-next, tally-stop, tally-end}
 use Rattle.filter.proofs.strata.read_all.Statement.{statement}
 use Rattle.filter.proofs.strata.read_all.Tie as tie
@@ -22,7 +22,7 @@ loop-holds : tie.Need-loop-holds Inv-loop μ-loop
 loop-holds c =
     let s = c .before .before in
     tally-start (s .args .salt) (columns (now (s .args .ids)) (now (s .args .hashes)) (now (s .args .counts))) _ _ _ (s .pre .2) (s .pre .3)
-    (chains-start 4096 8192 refl refl)
+    (trees-start 4096 8192 refl refl)
 
 read-one-requires : tie.Need-read-one-requires Inv-loop μ-loop
 read-one-requires c κs =
@@ -34,7 +34,7 @@ read-one-requires c κs =
       omega (arith, inv .few),
       inv .wide,
       record { all = λ i h. inv .small .all i (omega (arith, h, more)) },
-      inv .chains,
+      inv .trees,
     )
 
 sample-requires : tie.Need-sample-requires Inv-loop μ-loop
