@@ -1,6 +1,8 @@
 // The arithmetic of a bucket: numbers as bytes, CRC-32, salting, places, strata, counter widths, packed counters, and one
 // bucket of three lent columns. The lowest layer of Tandawire: it knows no table, no filter and no message.
 // Every function answers every input; the definitions that the contracts cite stand in specs/.
+#![tactic(auto)]
+
 pub mod bytes;
 pub mod columns;
 pub mod counts;

@@ -1,4 +1,5 @@
 // Reads two tables and a size from standard input, and prints what one holds that the other lacks (document 01, "Numbers to check").
+#![tactic(auto)]
 mod report;
 mod text;
 

@@ -1,6 +1,7 @@
 // What stands before a step and around it: the start of each side; the form of what a step is given, refusal 1, in full; rooms, the grid, and the
 // numbers that are answered.
 // The layer below `session`.
+#![tactic(auto)]
 mod fronts;
 pub mod grid;
 mod judging;

@@ -1,1 +1,2 @@
 // Laws above the session that no function needs: what calls leave, what is sent, and two ends.
+#![tactic(auto)]

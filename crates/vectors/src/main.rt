@@ -1,4 +1,5 @@
 // Outside vectors, run through the library. What it prints is held to the file `stdout`.
+#![tactic(auto)]
 use libc::STDOUT_FILENO;
 
 fn main() {

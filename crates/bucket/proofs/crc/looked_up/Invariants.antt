@@ -1,0 +1,15 @@
+-- `bucket::crc::looked_up` meets its contract: the bytes that are left, looked up from c, give what all n give from the start.
+-- Assumes nothing.
+use mathlib.Core.Path.{◌≡◌, refl, sym, ◌∙◌}
+use Prim.Native.Nat.{◌≤◌}
+use native.Mathlib.Omega.{arith}
+use borrow.Author.Rules.{rules}
+use Rattle.bucket.specs.Crc.{looked_up}
+use Rattle.bucket.proofs.TableLaws.{looked_up_more, looked_up_none}
+use Rattle.bucket.proofs.crc.looked_up.Given as goal
+
+abbrev pub invariant-loop-k : goal.invariant-loop-k
+invariant-loop-k l = (l.k ≤ l.n) × (looked_up l.tab l.row l.x l.k l.c ≡ looked_up l.tab l.row l.x l.n l.start)
+
+abbrev pub decreases-loop-k : goal.decreases-loop-k
+decreases-loop-k l = l.k

@@ -1,0 +1,27 @@
+use mathlib.Core.Path.{◌≡◌, refl, ap, subst, ◌∙◌}
+use mathlib.Core.Logic.{⊎_elim}
+use Prim.Native.Nat.{ℕ, ◌-◌}
+use native.Mathlib.Omega.{arith}
+use borrow.Author.Rules.{rules}
+use Rattle.bucket.specs.Crc.{steps, entry, crc_tables}
+use Rattle.bucket.proofs.TableLaws.{Filled, filled-all, filled_more, entry_first, entry_next}
+use Rattle.bucket.proofs.crc.tables.Goals as goal
+use Rattle.bucket.proofs.crc.tables.Goals.{then-i-lt256, else-i-lt256}
+
+pub loop-i-init : goal.loop-i-init
+loop-i-init c = record { within = omega arith; long = refl; each = λ i l. absurd (omega arith) }
+
+pub loop-i-preserved : goal.loop-i-preserved
+loop-i-preserved c = let at = c.loop-i in
+    filled_more entry 2048 at.i c.octet.result at.tab at.invariant c.loop-i-test.true
+    (c.octet.ensures
+    ∙ (elim c.if-i-lt256.branch [
+      | then-i-lt256 w ↦ ap (steps 8) w.v-is ∙ entry_first at.i (omega arith)
+      | else-i-lt256 w ↦ ap (steps 8) (w.v-is ∙ at.invariant.each (at.i - 256) (omega arith)) ∙ entry_next at.i (omega arith)
+    ]))
+
+pub returns : goal.returns
+unfolding crc_tables
+returns c = let at = c.loop-i in
+    let e : at.i ≡ 2048 = omega (arith, at.invariant.within, c.loop-i-test.false) in
+    filled-all entry 2048 at.tab (subst (λ (n : ℕ). Filled entry 2048 n at.tab) e at.invariant)
