@@ -31,6 +31,7 @@ SEPARATORS = "\\s(){}\\[\\].,;:→⌜⌝«»`\"|"
 TOKEN = re.compile(f"[^{SEPARATORS}]+")
 NAMES = re.compile(f"^(\\s*)((?:abbrev |unfoldable |pub )*)((?:[^{SEPARATORS}]+ )+): ")
 BLOCK = re.compile(r"^(\s*)(?:abbrev |unfoldable |pub )*(record|data) (\S+)")
+IN_MODULE = re.compile(f"[.{SEPARATORS}][A-Z][^{SEPARATORS}]*\\.$")
 NOT_NAMES = ("let ", "use ", "module ", "in ", "λ", "|", "elim ", "--")
 
 
@@ -131,12 +132,15 @@ def main(argv):
         return 1
     fields = {name for name, kind in kinds.items() if "field" in kind}
 
-    def turn(text):
+    def turn(text, source):
         def one(match):
             token = match.group(0)
             if token not in new_of:
                 return token
-            if match.start() and text[match.start() - 1] == "." and not text[: match.start()].endswith("..") and token not in fields:
+            if source and re.fullmatch(r"[a-z0-9_]+", token):
+                return token  # a function of src/ that has a lemma's name
+            before = text[: match.start()]
+            if before.endswith(".") and not before.endswith("..") and token not in fields and not IN_MODULE.search(before[-80:]):
                 return token
             return new_of[token]
 
@@ -144,7 +148,7 @@ def main(argv):
 
     changed = 0
     for path, text in texts.items():
-        new = turn(text)
+        new = turn(text, path.suffix == ".rt")
         if new != text:
             path.write_text(new, encoding="utf-8")
             changed += 1

@@ -235,10 +235,10 @@ news-append seen (a ∷ l) m = go (elem a seen) refl (news-append seen l m) (new
 -- ---- numbers taken through a rule
 
 pub in_map : (f : ℕ → ℕ) (x : ℕ) (l : List ℕ) → x ∈ l → f x ∈ map f l
-in_map f x l h = Rattle.filter.proofs.SelectLaws.mem-key f (elem_mem x l h)
+in_map f x l h = Rattle.filter.proofs.SelectLaws.mem_key f (elem_mem x l h)
 
 pub map_in : (f : ℕ → ℕ) (y : ℕ) (l : List ℕ) → y ∈ map f l → (x : ℕ) × (x ∈ l) × (f x ≡ y)
-map_in f y l h = let (x, m, p) = Rattle.filter.proofs.SelectLaws.map-mem f y l (elem_mem y (map f l) h) in (x, mem_elem m, sym p)
+map_in f y l h = let (x, m, p) = Rattle.filter.proofs.SelectLaws.map_mem f y l (elem_mem y (map f l) h) in (x, mem_elem m, sym p)
 
 pub distinct-map : (f : ℕ → ℕ) (l : List ℕ) → ((x y : ℕ) → x ∈ l → y ∈ l → f x ≡ f y → x ≡ y) → Distinct l → Distinct (map f l)
 distinct-map f [] inj d = tt
@@ -252,7 +252,7 @@ distinct-map f (a ∷ l) inj d = (
 
 -- where no value stands twice, a number is known by its value
 pub map-distinct : (f : ℕ → ℕ) (l : List ℕ) → Distinct (map f l) → (x y : ℕ) → x ∈ l → y ∈ l → f x ≡ f y → x ≡ y
-map-distinct f l d x y p q e = Rattle.filter.proofs.SelectLaws.key-same f l d x y (elem_mem x l p) (elem_mem y l q) e
+map-distinct f l d x y p q e = Rattle.filter.proofs.SelectLaws.key_same f l d x y (elem_mem x l p) (elem_mem y l q) e
 
 -- ---- how many different numbers
 

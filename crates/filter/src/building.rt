@@ -23,7 +23,7 @@ pub fn build(
 {
     let formed = crate::table::is_table(table);
     let ranged = crate::forms::in_range(size, salt);
-    let roomy = crate::forms::has_room_lem(ids, hashes, counts, size);
+    let roomy = crate::forms::has_room(ids, hashes, counts, size);
     if !formed {
         return Refusal::Form;
     }

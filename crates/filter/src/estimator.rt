@@ -16,7 +16,7 @@ pub fn build(table: &[u8], ids: &mut [u64], hashes: &mut [u32], counts: &mut [i6
         ≡ estimator_call first_eight 0 table.now (columns ids.old hashes.old counts.old) }
 {
     let formed = crate::table::is_table(table);
-    let roomy = crate::forms::has_room_lem(ids, hashes, counts, 2528);
+    let roomy = crate::forms::has_room(ids, hashes, counts, 2528);
     if !formed {
         return Refusal::Form;
     }
@@ -83,6 +83,6 @@ fn have_room(
     ensures { result ≡ (has_room 2528 (columns ids.now hashes.now counts.now)
         && has_room 2528 (columns ids2.now hashes2.now counts2.now)) }
 {
-    crate::forms::has_room_lem(ids, hashes, counts, 2528)
-        & crate::forms::has_room_lem(ids2, hashes2, counts2, 2528)
+    crate::forms::has_room(ids, hashes, counts, 2528)
+        & crate::forms::has_room(ids2, hashes2, counts2, 2528)
 }

@@ -26,7 +26,7 @@ pub fn are_counts(counts: &[i64], size: u32) -> bool
 }
 
 // Whether each column has at least size places.
-pub fn has_room_lem(ids: &[u64], hashes: &[u32], counts: &[i64], size: u32) -> bool
+pub fn has_room(ids: &[u64], hashes: &[u32], counts: &[i64], size: u32) -> bool
     ensures { result ≡ has_room size (columns ids.now hashes.now counts.now) }
 {
     let n = size as usize;

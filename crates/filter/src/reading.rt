@@ -117,7 +117,7 @@ fn has_all_room(
     ensures { result ≡ (has_room size (columns ids.now hashes.now counts.now)
         && (leb size (length ours.now) && leb size (length theirs.now))) }
 {
-    crate::forms::has_room_lem(ids, hashes, counts, size)
+    crate::forms::has_room(ids, hashes, counts, size)
         & crate::forms::lists_have_room(ours, theirs, size)
 }
 

@@ -5,7 +5,7 @@ ghost use Rattle.form.specs.Answers.{rooms_of, early_of};
 use ledger::numbers::{FORM, OUT_OF_TURN, ROOM};
 
 // Refusal 2's test of its slices, by their lengths.
-pub fn has_room_lem(
+pub fn has_room(
     records: usize,
     marks: usize,
     inquired: usize,

@@ -32,11 +32,11 @@ pub fn filter(
             why: Refusal::Range,
         };
     }
-    if !filter::forms::has_room_lem(ids, hashes, counts, size) {
+    if !filter::forms::has_room(ids, hashes, counts, size) {
         return Wrote::Refused { why: Refusal::Room };
     }
     let width = width_for(counts, size as usize);
-    if !crate::writing::has_room_lem(at, filter_bytes(width, size), out.len()) {
+    if !crate::writing::has_room(at, filter_bytes(width, size), out.len()) {
         return Wrote::Refused { why: Refusal::Room };
     }
     let next = crate::frames::put_filter(ids, hashes, counts, size, salt, width, out, at);

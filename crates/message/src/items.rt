@@ -43,7 +43,7 @@ pub fn counter_at(s: &[u8], n: usize, width: u32, i: usize) -> u32
 }
 
 // Hash i of an OFFER or DEMAND, as a part of the bytes; of a DONE the checksum is hash 0.
-pub fn hash_at_lem(s: &[u8], i: usize) -> &[u8]
+pub fn hash_at(s: &[u8], i: usize) -> &[u8]
     ensures { result.now ≡ hash_part s.now i }
 {
     if s.len() < 4 {

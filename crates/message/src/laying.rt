@@ -50,7 +50,7 @@ fn lay_slice(
     ensures { lay result (columns ids.new hashes.new counts.new)
         ≡ lay_buckets offset width n s.now (columns ids.old hashes.old counts.old) }
 {
-    if !filter::forms::has_room_lem(ids, hashes, counts, offset + n as u32) {
+    if !filter::forms::has_room(ids, hashes, counts, offset + n as u32) {
         return Refusal::Room;
     }
     let from = offset as usize;

@@ -74,7 +74,7 @@ fn read_slice(s: &[u8], kind: u32) -> Message
     slice_head(kind, size, offset, salt, width)
 }
 
-fn slice_fits_lem(kind: u32, size: u32, offset: u32, salt: u32, width: u32, len: usize) -> bool
+fn slice_fits(kind: u32, size: u32, offset: u32, salt: u32, width: u32, len: usize) -> bool
     ensures { result ≡ slice_fits kind size offset salt width len }
 {
     let n = crate::slices::in_slice(size, offset);

@@ -95,7 +95,7 @@ fn hashes_as(kind: u32, hashes: &[u8], out: &mut [u8], at: usize) -> Wrote
 }
 
 // Whether n bytes from a position on lie within the room.
-pub(crate) fn has_room_lem(at: usize, n: usize, room: usize) -> bool
+pub(crate) fn has_room(at: usize, n: usize, room: usize) -> bool
     ensures { result ≡ leb (at + n) room }
 {
     if room < n {

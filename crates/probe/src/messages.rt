@@ -73,7 +73,7 @@ pub extern "C" fn tandawire_message_counter(s: &[u8], n: usize, width: u32, i: u
 pub extern "C" fn tandawire_message_hash(s: &[u8], i: usize, at: usize, k: usize) -> u64
     ensures { result ≡ joined 8 (part at (min 8 k) (hash_part s.now i)) }
 {
-    bucket::bytes::number_at(message::items::hash_at_lem(s, i), at, k)
+    bucket::bytes::number_at(message::items::hash_at(s, i), at, k)
 }
 
 // The same of an ELEMENT's content.

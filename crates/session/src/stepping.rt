@@ -32,7 +32,7 @@ pub fn step(
         ≡ step_call first_eight (given numbers table.now records.old marks.old inquired.old (columns ids.old hashes.old counts.old) ours.old theirs.old hash.now message.now out.old) }
 {
     let tally = form::tallying::judge(numbers, table, records, marks, inquired, counts);
-    let roomy = form::rooms::has_room_lem(
+    let roomy = form::rooms::has_room(
         records.len(),
         marks.len(),
         inquired.len(),

@@ -1,0 +1,20 @@
+-- `adding::add_to_places` meets its contract: the places are distinct and below the size, so each is added to once, and a count below 2^60 stays exact.
+-- The invariant: the element spread over the places still to come, on the columns as they are, is the element spread over all places on the columns as they were.
+-- Assumes nothing.
+use mathlib.Core.Path.{◌≡◌}
+use Prim.Native.Nat.{◌-◌}
+use native.Mathlib.Omega.{arith}
+use borrow.Author.Rules.{rules}
+use lib.IntN.{pos}
+use Rattle.bucket.specs.Bucket.{bucket}
+use Rattle.bucket.specs.Columns.{columns}
+use Rattle.bucket.specs.Lists.{pad}
+use Rattle.bucket.specs.Places.{places}
+use Rattle.filter.proofs.SpreadLaws.{Added, added_start, added_open, added_next, added_end, places-given}
+use Rattle.filter.proofs.adding.add_to_places.Given as goal
+
+abbrev pub invariant-loop-j : goal.invariant-loop-j
+invariant-loop-j l = Added l.k l.size l.h (bucket l.x l.h (pos 1)) (columns l.initial.ids l.initial.hashes l.initial.counts) (columns l.ids l.hashes l.counts) l.j
+
+abbrev pub decreases-loop-j : goal.decreases-loop-j
+decreases-loop-j l = l.k - l.j

@@ -1,0 +1,11 @@
+-- `answers::made_numbers` meets its contract: each case's numbers are the definition's. Assumes nothing.
+use mathlib.Core.Path.{sym, ap, ◌∙◌}
+use Rattle.filter.specs.Answers.{made_answer}
+use borrow.Author.Rules.{rules}
+use Rattle.filter.proofs.answers.made_numbers.Goals as goal
+
+pub returns-in_default : goal.returns-in_default
+returns-in_default c = c.estimate_with.ensures ∙ sym (ap made_answer c.enum_told-1.given.1)
+
+pub returns : goal.returns
+returns c = c.estimate_with-2.ensures ∙ sym (ap made_answer c.e-1.given.1)

@@ -1,0 +1,19 @@
+-- `clearing::clear_columns` meets its contract: the three stores place the zero bucket, and the invariant is that the first i buckets are filled with it.
+-- Assumes nothing.
+use mathlib.Core.Path.{◌≡◌, ap, ◌∙◌}
+use Prim.Native.Nat.{ℕ, ◌-◌, ◌≤◌}
+use native.Mathlib.Omega.{arith}
+use borrow.Author.Rules.{rules}
+use Rattle.bucket.specs.Bucket.{𝟎}
+use Rattle.bucket.specs.Columns.{Columns, columns, place}
+use Rattle.bucket.proofs.ColumnLaws.{SameLengths}
+use Rattle.filter.specs.Calls.{filled}
+use Rattle.filter.specs.Steps.{Wide}
+use Rattle.filter.proofs.FilledLaws.{filled_none, filled_next, filled_is_lengths, wide-same}
+use Rattle.filter.proofs.clearing.clear_columns.Given as goal
+
+abbrev pub invariant-loop-i : goal.invariant-loop-i
+invariant-loop-i l = (l.i ≤ l.n) × (columns l.ids l.hashes l.counts ≡ filled l.i (λ _. 𝟎) (columns l.initial.ids l.initial.hashes l.initial.counts))
+
+abbrev pub decreases-loop-i : goal.decreases-loop-i
+decreases-loop-i l = l.n - l.i

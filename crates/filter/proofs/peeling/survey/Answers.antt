@@ -1,0 +1,40 @@
+use mathlib.Core.Path.{◌≡◌, sym, subst}
+use mathlib.Core.Logic.{⊎_elim}
+use Prim.Native.Nat.{ℕ, ◌-◌, ◌≤◌}
+use native.Mathlib.Omega.{arith}
+use borrow.Author.Rules.{rules, sfits_of}
+use Rattle.bucket.specs.Columns.{columns, view}
+use Rattle.filter.specs.Filter.{rule}
+use Rattle.filter.specs.Marks.{Marks}
+use Rattle.filter.proofs.ShowLaws.{pure_read, impure_read, shows_below, shows-start, shows_on, shows_no}
+use Rattle.filter.proofs.peeling.survey.Goals as goal
+
+pub loop-b-init : goal.loop-b-init
+loop-b-init c = let a = c.args in
+    let f = view (columns a.ids.now a.hashes.now a.counts.now) in
+    (omega arith, shows-start (rule a.k a.size 0) f a.bits.now 0 c.requires.3)
+
+pub loop-b-preserved : goal.loop-b-preserved
+loop-b-preserved c = let a = c.args in
+    let w = c.loop-b in
+    let R = rule a.k a.size 0 in
+    let f = view (columns a.ids.now a.hashes.now a.counts.now) in
+    let fit = sfits_of c.s-1.given in (
+      omega arith,
+      ⊎_elim
+          (λ v. rw (v.6, v.7) (shows_on R f w.b v.5.last.0 v.5.result v.3.result
+          (pure_read a.k a.size a.tab.now 0 w.b a.ids.now a.hashes.now a.counts.now v.3.result
+          c.requires.0 c.requires.1.few fit v.3.ensures)
+          (v.5.ensures (shows_below R f w.b) w.invariant.1)))
+          (λ v. rw (v.1, v.2) (shows_no R f w.b w.bits w.t
+          (sym (impure_read a.k a.size 0 w.b a.ids.now a.hashes.now a.counts.now c.is_one.result fit c.is_one.ensures v.0.left))
+          w.invariant.1))
+          c.if-is_one.branch,
+    )
+
+pub returns : goal.returns
+returns c = let a = c.args in
+    let w = c.loop-b in
+    let e : w.b ≡ a.size = omega arith in
+    let f = view (columns a.ids.now a.hashes.now a.counts.now) in
+    subst (λ (n : ℕ). Marks (shows_below (rule a.k a.size 0) f n) w.bits w.t) e w.invariant.1

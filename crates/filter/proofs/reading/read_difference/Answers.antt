@@ -1,0 +1,21 @@
+-- `reading::read_difference` meets its contract: the peeling is the definition's, so the verdict is, and each verdict leaves what the definition
+-- says. Assumes nothing.
+use Rattle.filter.proofs.CallLaws.{judge_ready, clear-again, read-complete, read-stuck, read_false_lem}
+use borrow.Author.Rules.{rules}
+use Rattle.filter.proofs.reading.read_difference.Goals as goal
+
+pub judge-v-requires : goal.judge-v-requires
+judge-v-requires c = judge_ready c.requires c.peel_difference-p.ensures.0
+
+pub clear_all-requires : goal.clear_all-requires
+clear_all-requires c = clear-again c.requires c.peel_difference-p.ensures.0
+
+pub returns-in-Complete : goal.returns-in-Complete
+returns-in-Complete c = read-complete c.requires c.peel_difference-p.ensures.0 c.peel_difference-p.ensures.1 c.judge-v.ensures c.enum_told-1.given.1
+
+pub returns-in-Stuck : goal.returns-in-Stuck
+returns-in-Stuck c = read-stuck c.requires c.peel_difference-p.ensures.0 c.peel_difference-p.ensures.1 c.judge-v.ensures c.enum_told-in-Stuck-1.given.1
+
+pub returns-in-False : goal.returns-in-False
+returns-in-False c = let e = c.clear_all.ensures in
+    read_false_lem c.requires c.peel_difference-p.ensures.0 c.peel_difference-p.ensures.1 c.judge-v.ensures c.enum_told-in-False-1.given.1 e.0 e.1 e.2

@@ -1,0 +1,16 @@
+-- `strata::read_all` meets its contract. The loop's invariant: what the strata from n upwards list is counted in the total, and counting and
+-- reading on from the columns as they are now gives the definition's estimate and what the definition leaves. The measure is n. Assumes nothing.
+use Prim.Native.Nat.{◌-◌}
+use native.Mathlib.Omega.{arith}
+use mathlib.Core.Path.{refl, sym, ◌∙◌}
+use borrow.Author.Rules.{rules}
+use Rattle.bucket.specs.Columns.{columns}
+use Rattle.filter.proofs.RepeatLaws.{trees-start}
+use Rattle.filter.proofs.TallyLaws.{lists-few, Tally, tally_start, tally_next, tally_stop, tally_end}
+use Rattle.filter.proofs.strata.read_all.Given as goal
+
+abbrev pub invariant-loop-n : goal.invariant-loop-n
+invariant-loop-n l = Tally l.salt (columns l.initial.ids l.initial.hashes l.initial.counts) (columns l.ids l.hashes l.counts) l.heads l.links l.seen l.total l.n
+
+abbrev pub decreases-loop-n : goal.decreases-loop-n
+decreases-loop-n l = l.n
