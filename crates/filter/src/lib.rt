@@ -1,6 +1,7 @@
 // Tables, filters, their subtraction and reading. The layer above `bucket`, whose contracts and laws are all that it uses.
 // Every public function answers every input; the definitions that the contracts cite stand in specs/.
 #![tactic(auto)]
+
 mod adding;
 pub mod answers;
 pub mod building;

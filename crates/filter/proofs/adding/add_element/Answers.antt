@@ -56,5 +56,5 @@ returns c = let p = c.add_to_places in
     let a = c.args in
     let h = c.crc_by-h in
     element_added a.top a.k a.size a.x c.start-a.result h.result (columns a.ids.now a.hashes.now a.counts.now)
-    (columns p.new.hashes.0 p.new.hashes.1.0 p.new.hashes.1.1.0)
+    (columns p.new.ids p.new.hashes p.new.counts)
     c.requires.3 c.start-a.ensures (crc_given a.tab.now a.x h.result c.requires.0 h.ensures) p.ensures

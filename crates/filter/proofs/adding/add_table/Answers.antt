@@ -42,7 +42,7 @@ loop-e-preserved c = let t = c.add_element in
     gathered_next (layered a.top a.k a.size a.salt) (ids_of first_eight a.table.now)
     (columns a.ids.now a.hashes.now a.counts.now) (columns w.ids w.hashes w.counts) w.e
     c.requires.4 w.invariant c.element_id-id.result c.salt-x.result (crc_of c.salt-x.result)
-    ((layered a.top a.k a.size 0).places c.salt-x.result) (columns t.new.hashes.0 t.new.hashes.1.0 t.new.hashes.1.1.0)
+    ((layered a.top a.k a.size 0).places c.salt-x.result) (columns t.new.ids t.new.hashes t.new.counts)
     (omega (arith, counted (goal.at.loop-e-preserved c).After-count-n, c.loop-e-test.true)) c.element_id-id.ensures c.salt-x.ensures
     refl refl t.ensures
 

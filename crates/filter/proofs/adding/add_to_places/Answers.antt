@@ -33,7 +33,7 @@ loop-j-preserved c = let t = c.put_at in
     added_next a.k a.size a.h (bucket a.x a.h (pos 1))
     (columns a.ids.now a.hashes.now a.counts.now) (columns w.ids w.hashes w.counts) w.j
     c.requires.1 c.requires.2 w.invariant c.places-p.result (omega arith) (given (goal.at.loop-j-preserved c).After-places-p) c.loop-j-test.true
-    (columns t.new.ids t.new.hashes.0 t.new.hashes.1.0) t.ensures
+    (columns t.new.ids t.new.hashes t.new.counts) t.ensures
 
 pub shape_of-ids : goal.shape_of-ids
 shape_of-ids c = c.loop-j.invariant.lengths.0

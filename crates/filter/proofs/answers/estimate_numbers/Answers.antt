@@ -5,10 +5,10 @@ use borrow.Author.Rules.{rules}
 use Rattle.filter.proofs.answers.estimate_numbers.Goals as goal
 
 pub returns-in-Made : goal.returns-in-Made
-returns-in-Made c = c.made_numbers.ensures ∙ sym (ap estimate_answer c.e-1.given.1)
+returns-in-Made c = c.made_numbers.ensures ∙ sym (ap estimate_answer c.in-Made.is)
 
 pub returns-in-NotCounts : goal.returns-in-NotCounts
-returns-in-NotCounts c = c.estimate_with.ensures ∙ sym (ap estimate_answer c.enum_told-1.given.1)
+returns-in-NotCounts c = c.estimate_with.ensures ∙ sym (ap estimate_answer c.in-NotCounts.is)
 
 pub returns-in-TooShort : goal.returns-in-TooShort
-returns-in-TooShort c = c.estimate_with-in-TooShort.ensures ∙ sym (ap estimate_answer c.enum_told-in-TooShort-1.given.1)
+returns-in-TooShort c = c.estimate_with-in-TooShort.ensures ∙ sym (ap estimate_answer c.in-TooShort.is)

@@ -5,7 +5,7 @@ use borrow.Author.Rules.{rules}
 use Rattle.filter.proofs.answers.made_numbers.Goals as goal
 
 pub returns-in_default : goal.returns-in_default
-returns-in_default c = c.estimate_with.ensures ∙ sym (ap made_answer c.enum_told-1.given.1)
+returns-in_default c = c.estimate_with.ensures ∙ sym (ap made_answer c.in_default.is)
 
 pub returns : goal.returns
-returns c = c.estimate_with-2.ensures ∙ sym (ap made_answer c.e-1.given.1)
+returns c = c.estimate_with-2.ensures ∙ sym (ap made_answer c.in-Known.is)

@@ -5,19 +5,19 @@ use borrow.Author.Rules.{rules}
 use Rattle.filter.proofs.answers.numbers.Goals as goal
 
 pub returns-in-Complete : goal.returns-in-Complete
-returns-in-Complete c = c.answer_with.ensures ∙ sym (ap answer_of c.r-1.given.1)
+returns-in-Complete c = c.answer_with.ensures ∙ sym (ap answer_of c.in-Complete.is)
 
 pub returns-in-Stuck : goal.returns-in-Stuck
-returns-in-Stuck c = c.answer_with-in-Stuck.ensures ∙ sym (ap answer_of c.r-in-Stuck-1.given.1)
+returns-in-Stuck c = c.answer_with-in-Stuck.ensures ∙ sym (ap answer_of c.in-Stuck.is)
 
 pub returns-in-BadForm : goal.returns-in-BadForm
-returns-in-BadForm c = c.answer_with-in-BadForm.ensures ∙ sym (ap answer_of c.enum_told-1.given.1)
+returns-in-BadForm c = c.answer_with-in-BadForm.ensures ∙ sym (ap answer_of c.in-BadForm.is)
 
 pub returns-in-BadRange : goal.returns-in-BadRange
-returns-in-BadRange c = c.answer_with-in-BadRange.ensures ∙ sym (ap answer_of c.enum_told-in-BadRange-1.given.1)
+returns-in-BadRange c = c.answer_with-in-BadRange.ensures ∙ sym (ap answer_of c.in-BadRange.is)
 
 pub returns-in-NoRoom : goal.returns-in-NoRoom
-returns-in-NoRoom c = c.answer_with-in-NoRoom.ensures ∙ sym (ap answer_of c.enum_told-in-NoRoom-1.given.1)
+returns-in-NoRoom c = c.answer_with-in-NoRoom.ensures ∙ sym (ap answer_of c.in-NoRoom.is)
 
 pub returns-in-Untrue : goal.returns-in-Untrue
-returns-in-Untrue c = c.answer_with-in-Untrue.ensures ∙ sym (ap answer_of c.r-in-Untrue-1.given.1)
+returns-in-Untrue c = c.answer_with-in-Untrue.ensures ∙ sym (ap answer_of c.in-Untrue.is)

@@ -33,10 +33,10 @@ returns-then-not-ranged c = rw (test_granted c.is_table-formed.ensures (ap not c
 pub returns-then-not-roomy : goal.returns-then-not-roomy
 unfolding build_call build_refusal
 returns-then-not-roomy c = rw (
-      test_granted c.is_table-formed.ensures (ap not c.if-not-formed.false),
-      test_granted c.in_range-ranged.ensures (ap not c.if-not-ranged.false),
-      test_refused c.has_room-roomy.ensures (ap not c.if-not-roomy.true),
-    ) refl
+  test_granted c.is_table-formed.ensures (ap not c.if-not-formed.false),
+  test_granted c.in_range-ranged.ensures (ap not c.if-not-ranged.false),
+  test_refused c.has_room-roomy.ensures (ap not c.if-not-roomy.true),
+) refl
 
 pub fill-requires : goal.fill-requires
 fill-requires c = granted (goal.at.fill-requires c).Else-not-roomy

@@ -18,7 +18,7 @@ use Rattle.filter.proofs.building.fill.Goals.{Start}
 
 -- the columns that were given
 abbrev given : Start → Columns
-given s = columns s.args.ids.now s.args.hashes.now s.args.counts.now
+given c = columns c.args.ids.now c.args.hashes.now c.args.counts.now
 
 pub clear_columns-requires : goal.clear_columns-requires
 clear_columns-requires c = wide_of _ _ c.requires.2

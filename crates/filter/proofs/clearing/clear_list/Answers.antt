@@ -20,9 +20,9 @@ bounds-xs-i c = omega (arith, c.loop-i.invariant.1.same)
 
 pub loop-i-preserved : goal.loop-i-preserved
 loop-i-preserved c = let i = c.loop-i.i in (
-      omega arith,
-      laid_next 0 (replicate (i + 1) 0) {p = i} c.loop-i.invariant.1 (omega (arith, length-replicate {A = ℕ} i 0)) (omega arith) (sym (replicate-append-replicate {A = ℕ} i 1 0)),
-    )
+  omega arith,
+  laid_next 0 (replicate (i + 1) 0) {p = i} c.loop-i.invariant.1 (omega (arith, length-replicate {A = ℕ} i 0)) (omega arith) (sym (replicate-append-replicate {A = ℕ} i 1 0)),
+)
 
 pub shape_of-xs : goal.shape_of-xs
 shape_of-xs c = c.loop-i.invariant.1.same

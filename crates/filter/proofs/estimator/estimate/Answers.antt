@@ -16,10 +16,10 @@ use Rattle.filter.proofs.estimator.estimate.Goals.{Else-not-both_roomy}
 
 -- behind the two tests: the columns as they were lent, and what the tests say of them
 abbrev first : Else-not-both_roomy → Columns
-first c = let a = c.before.before.before.before.before.before.before.before.before.before.before.before.args in columns a.ids.now a.hashes.now a.counts.now
+first c = let a = c.args in columns a.ids.now a.hashes.now a.counts.now
 
 abbrev second : Else-not-both_roomy → Columns
-second c = let a = c.before.before.before.before.before.before.before.before.before.before.before.before.args in columns a.ids2.now a.hashes2.now a.counts2.now
+second c = let a = c.args in columns a.ids2.now a.hashes2.now a.counts2.now
 
 counted : (c : Else-not-both_roomy) → are_counts 2528 (first c).counts && are_counts 2528 (second c).counts ≡ true
 counted c = test_granted c.are_counts-counted.ensures (ap not c.if-not-counted.false)
@@ -40,11 +40,11 @@ subtract-requires c = estimate_ready (first (goal.at.subtract-requires c).Else-n
 
 pub read_all-requires : goal.read_all-requires
 read_all-requires c = let e = c.subtract.ensures in (
-      c.tables-tab.ensures,
-      omega arith,
-      less-wide (first (goal.at.read_all-requires c).Else-not-both_roomy) (second (goal.at.read_all-requires c).Else-not-both_roomy) (counted (goal.at.read_all-requires c).Else-not-both_roomy) (roomy (goal.at.read_all-requires c).Else-not-both_roomy) e,
-      less-small (first (goal.at.read_all-requires c).Else-not-both_roomy) (second (goal.at.read_all-requires c).Else-not-both_roomy) (counted (goal.at.read_all-requires c).Else-not-both_roomy) (roomy (goal.at.read_all-requires c).Else-not-both_roomy) e,
-    )
+  c.tables-tab.ensures,
+  omega arith,
+  less-wide (first (goal.at.read_all-requires c).Else-not-both_roomy) (second (goal.at.read_all-requires c).Else-not-both_roomy) (counted (goal.at.read_all-requires c).Else-not-both_roomy) (roomy (goal.at.read_all-requires c).Else-not-both_roomy) e,
+  less-small (first (goal.at.read_all-requires c).Else-not-both_roomy) (second (goal.at.read_all-requires c).Else-not-both_roomy) (counted (goal.at.read_all-requires c).Else-not-both_roomy) (roomy (goal.at.read_all-requires c).Else-not-both_roomy) e,
+)
 
 pub returns : goal.returns
 returns c = let r = c.read_all.ensures in

@@ -14,14 +14,14 @@ returns-then-not-all_zero c = rw (is_fine_lem c.args.fine (ap not c.if-not-fine.
 
 pub returns-then-not-lists_agree : goal.returns-then-not-lists_agree
 returns-then-not-lists_agree c = rw (
-      is_fine_lem c.args.fine (ap not c.if-not-fine.false),
-      test_granted c.all_zero.ensures (ap not c.if-not-all_zero.false),
-      test_refused c.lists_agree.ensures (ap not c.if-not-lists_agree.true),
-    )
+  is_fine_lem c.args.fine (ap not c.if-not-fine.false),
+  test_granted c.all_zero.ensures (ap not c.if-not-all_zero.false),
+  test_refused c.lists_agree.ensures (ap not c.if-not-lists_agree.true),
+)
 
 pub returns : goal.returns
 returns c = rw (
-      is_fine_lem c.args.fine (ap not c.if-not-fine.false),
-      test_granted c.all_zero.ensures (ap not c.if-not-all_zero.false),
-      test_granted c.lists_agree.ensures (ap not c.if-not-lists_agree.false),
-    )
+  is_fine_lem c.args.fine (ap not c.if-not-fine.false),
+  test_granted c.all_zero.ensures (ap not c.if-not-all_zero.false),
+  test_granted c.lists_agree.ensures (ap not c.if-not-lists_agree.false),
+)

@@ -42,19 +42,19 @@ use Rattle.filter.proofs.peeling.peel.Given as goal
 
 abbrev pub invariant-loop-top : goal.invariant-loop-top
 invariant-loop-top l = Peeling
-    (record { l.size = l.size; l.k = l.k; l.salt = l.salt; columns = columns l.initial.ids l.initial.hashes l.initial.counts; l.ours = l.initial.ours; l.theirs = l.initial.theirs })
+    (record { size = l.size; k = l.k; salt = l.salt; columns = columns l.initial.ids l.initial.hashes l.initial.counts; ours = l.initial.ours; theirs = l.initial.theirs })
     (record {
       columns = columns l.ids l.hashes l.counts;
-      l.ours = l.ours;
-      l.theirs = l.theirs;
-      l.bits = l.bits;
-      l.heads = l.heads;
-      l.links = l.links;
-      l.seen = l.seen;
-      l.top = l.top;
+      ours = l.ours;
+      theirs = l.theirs;
+      bits = l.bits;
+      heads = l.heads;
+      links = l.links;
+      seen = l.seen;
+      top = l.top;
       made = l.m;
-      l.a = l.a;
-      l.t = l.t;
+      a = l.a;
+      t = l.t;
       looked = l.l;
     })
 

@@ -22,9 +22,9 @@ small-here c = abs_small c.args.s (omega (arith, c.requires.4))
 gone : (c : After-put_at) → let a = c.args in
     let was : Columns = columns a.ids.now a.hashes.now a.counts.now in
     let t = c.put_at in
-    columns t.new.ids t.new.hashes.0 t.new.hashes.1.0 ≡ place was a.b (view was a.b ⊕ neg (bucket a.x a.h a.s))
+    columns t.new.ids t.new.hashes t.new.counts ≡ place was a.b (view was a.b ⊕ neg (bucket a.x a.h a.s))
 unfolding neg
-gone c = rw (small-minus c.args.s (small-here (CTX Start))) at c.put_at.ensures
+gone c = rw (small-minus c.args.s (abs_small c.args.s (omega (arith, c.requires.4)))) at c.put_at.ensures
 
 pub overflow_sub-s : goal.overflow_sub-s
 overflow_sub-s c = small-minus-fits c.args.s (small-here (goal.at.overflow_sub-s c).Start)
@@ -40,13 +40,13 @@ pub returns-then-is_one : goal.returns-then-is_one
 returns-then-is_one c = let a = c.args in
     let t = c.put_at in
     let was : Columns = columns a.ids.now a.hashes.now a.counts.now in
-    let is : Columns = columns t.new.ids t.new.hashes.0 t.new.hashes.1.0 in
+    let is : Columns = columns t.new.ids t.new.hashes t.new.counts in
     let R : Rule = rule a.k a.size 0 in
     let left : Bucket = view was a.b ⊕ neg (bucket a.x a.h a.s) in
     let done = gone (goal.at.returns-then-is_one c).After-put_at in
     let on = c.looks_pure-on in
     let pure : on.result ≡ is_pure R a.b (view is a.b) =
-    pure_read a.k a.size a.tab.now 0 a.b t.new.ids t.new.hashes.0 t.new.hashes.1.0 on.result
+    pure_read a.k a.size a.tab.now 0 a.b t.new.ids t.new.hashes t.new.counts on.result
     c.requires.0 c.requires.1.few (sfits_of c.c-1.given) on.ensures in (
       done,
       rw done
@@ -59,13 +59,13 @@ pub returns : goal.returns
 returns c = let a = c.args in
     let t = c.put_at in
     let was : Columns = columns a.ids.now a.hashes.now a.counts.now in
-    let is : Columns = columns t.new.ids t.new.hashes.0 t.new.hashes.1.0 in
+    let is : Columns = columns t.new.ids t.new.hashes t.new.counts in
     let R : Rule = rule a.k a.size 0 in
     let left : Bucket = view was a.b ⊕ neg (bucket a.x a.h a.s) in
     let done = gone (goal.at.returns c).After-put_at in
     let one = c.is_one in
     let pure : false ≡ is_pure R a.b (view is a.b) =
-    impure_read a.k a.size 0 a.b t.new.ids t.new.hashes.0 t.new.hashes.1.0 one.result
+    impure_read a.k a.size 0 a.b t.new.ids t.new.hashes t.new.counts one.result
     (sfits_of c.c-1.given) one.ensures c.if-is_one.false in (
       done,
       rw done

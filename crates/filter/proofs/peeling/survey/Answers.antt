@@ -8,6 +8,7 @@ use Rattle.filter.specs.Filter.{rule}
 use Rattle.filter.specs.Marks.{Marks}
 use Rattle.filter.proofs.ShowLaws.{pure_read, impure_read, shows_below, shows-start, shows_on, shows_no}
 use Rattle.filter.proofs.peeling.survey.Goals as goal
+use Rattle.filter.proofs.peeling.survey.Goals.{then-is_one, else-is_one}
 
 pub loop-b-init : goal.loop-b-init
 loop-b-init c = let a = c.args in
@@ -21,15 +22,15 @@ loop-b-preserved c = let a = c.args in
     let f = view (columns a.ids.now a.hashes.now a.counts.now) in
     let fit = sfits_of c.s-1.given in (
       omega arith,
-      ⊎_elim
-          (λ v. rw (v.6, v.7) (shows_on R f w.b v.5.last.0 v.5.result v.3.result
-          (pure_read a.k a.size a.tab.now 0 w.b a.ids.now a.hashes.now a.counts.now v.3.result
-          c.requires.0 c.requires.1.few fit v.3.ensures)
-          (v.5.ensures (shows_below R f w.b) w.invariant.1)))
-          (λ v. rw (v.1, v.2) (shows_no R f w.b w.bits w.t
-          (sym (impure_read a.k a.size 0 w.b a.ids.now a.hashes.now a.counts.now c.is_one.result fit c.is_one.ensures v.0.left))
-          w.invariant.1))
-          c.if-is_one.branch,
+      elim c.if-is_one.branch [
+        | then-is_one v ↦ rw (v.bits-is, v.t-is) (shows_on R f w.b v.mark-t.new.bits v.mark-t.result v.looks_pure-on.result
+            (pure_read a.k a.size a.tab.now 0 w.b a.ids.now a.hashes.now a.counts.now v.looks_pure-on.result
+            c.requires.0 c.requires.1.few fit v.looks_pure-on.ensures)
+            (v.mark-t.ensures (shows_below R f w.b) w.invariant.1))
+        | else-is_one v ↦ rw (v.bits-is, v.t-is) (shows_no R f w.b w.bits w.t
+            (sym (impure_read a.k a.size 0 w.b a.ids.now a.hashes.now a.counts.now c.is_one.result fit c.is_one.ensures v.if-is_one.false))
+            w.invariant.1)
+      ],
     )
 
 pub returns : goal.returns

@@ -44,7 +44,7 @@ loop-j-preserved c = let a = c.args in
     let was : Columns = columns a.ids.now a.hashes.now a.counts.now in
     taking-next a.k a.size a.x a.h (to_z w64 (of_z w64 a.s)) was (columns w.ids w.hashes w.counts) w.bits w.t w.j
     c.requires.1 c.requires.2 w.invariant a.tab.now p.result c.requires.0 p.ensures
-    t.new.hashes.1.1.1.0 t.result (columns t.new.hashes.0 t.new.hashes.1.0 t.new.hashes.1.1.0)
+    t.new.bits t.result (columns t.new.ids t.new.hashes t.new.counts)
     c.loop-j-test.true
     (rw (to_z-of_z w64 a.s c.ranges.s) c.requires.3) t.ensures.0 t.ensures.1
 

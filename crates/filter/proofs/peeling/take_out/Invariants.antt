@@ -17,7 +17,7 @@ use Rattle.filter.proofs.TakingLaws.{Taking, taking_start, taking_wide, taking_s
 use Rattle.filter.proofs.peeling.take_out.Given as goal
 
 abbrev pub invariant-loop-j : goal.invariant-loop-j
-invariant-loop-j l = Taking l.k l.size l.x l.h (to_z w64 l.s) (columns l.initial.ids l.initial.hashes l.initial.counts) (columns l.ids l.hashes l.counts) l.bits l.t l.j
+invariant-loop-j l = Taking l.k l.size l.x l.h l.s (columns l.initial.ids l.initial.hashes l.initial.counts) (columns l.ids l.hashes l.counts) l.bits l.t l.j
 
 abbrev pub decreases-loop-j : goal.decreases-loop-j
 decreases-loop-j l = l.k - l.j

@@ -32,10 +32,10 @@ returns-then-not-ranged c = rw (test_granted c.is_well_formed-formed.ensures (ap
 pub returns-then-not-roomy : goal.returns-then-not-roomy
 unfolding read_call read_refusal
 returns-then-not-roomy c = rw (
-      test_granted c.is_well_formed-formed.ensures (ap not c.if-not-formed.false),
-      test_granted c.in_range-ranged.ensures (ap not c.if-not-ranged.false),
-      test_refused c.has_all_room-roomy.ensures (ap not c.if-not-roomy.true),
-    ) refl
+  test_granted c.is_well_formed-formed.ensures (ap not c.if-not-formed.false),
+  test_granted c.in_range-ranged.ensures (ap not c.if-not-ranged.false),
+  test_refused c.has_all_room-roomy.ensures (ap not c.if-not-roomy.true),
+) refl
 
 pub read_difference-requires : goal.read_difference-requires
 read_difference-requires c = read_ready (granted (goal.at.read_difference-requires c).Else-not-roomy)

@@ -11,11 +11,11 @@ pub clear_all-requires : goal.clear_all-requires
 clear_all-requires c = clear-again c.requires c.peel_difference-p.ensures.0
 
 pub returns-in-Complete : goal.returns-in-Complete
-returns-in-Complete c = read-complete c.requires c.peel_difference-p.ensures.0 c.peel_difference-p.ensures.1 c.judge-v.ensures c.enum_told-1.given.1
+returns-in-Complete c = read-complete c.requires c.peel_difference-p.ensures.0 c.peel_difference-p.ensures.1 c.judge-v.ensures c.in-Complete.is
 
 pub returns-in-Stuck : goal.returns-in-Stuck
-returns-in-Stuck c = read-stuck c.requires c.peel_difference-p.ensures.0 c.peel_difference-p.ensures.1 c.judge-v.ensures c.enum_told-in-Stuck-1.given.1
+returns-in-Stuck c = read-stuck c.requires c.peel_difference-p.ensures.0 c.peel_difference-p.ensures.1 c.judge-v.ensures c.in-Stuck.is
 
 pub returns-in-False : goal.returns-in-False
 returns-in-False c = let e = c.clear_all.ensures in
-    read_false_lem c.requires c.peel_difference-p.ensures.0 c.peel_difference-p.ensures.1 c.judge-v.ensures c.enum_told-in-False-1.given.1 e.0 e.1 e.2
+    read_false_lem c.requires c.peel_difference-p.ensures.0 c.peel_difference-p.ensures.1 c.judge-v.ensures c.in-False.is e.0 e.1 e.2

@@ -24,16 +24,16 @@ negate-requires c = let r = c.requires.1 in
 
 pub add_table-requires : goal.add_table-requires
 add_table-requires c = let r = c.requires.1 in (
-      c.requires.0,
-      rw c.place_count-k.ensures (range-sound c.args.size c.args.salt r.range),
-      omega arith,
-      table-count c.args.table.now r.table,
-      one-wide c.args.size _ (subst (Wide c.args.size) (sym (ap (columns c.args.ids.now c.args.hashes.now) c.negate.ensures ∙ negated-filled c.args.size c.args.ids.now c.args.hashes.now c.args.counts.now)) (wide-filled c.args.size c.args.size (λ i. neg (view (columns c.args.ids.now c.args.hashes.now c.args.counts.now) i)) (columns c.args.ids.now c.args.hashes.now c.args.counts.now) r.wide)),
-      one-small c.args.size (2 ^ 33) _ (subst (λ cs. Small c.args.size (2 ^ 33) (columns c.args.ids.now c.args.hashes.now cs)) (sym c.negate.ensures)
-          (small-more c.args.size (2 ^ 32) (2 ^ 33) _ (omega arith)
-          (negated-small c.args.size (2 ^ 32) c.args.ids.now c.args.hashes.now c.args.counts.now r.wide.counts
-          (counts-small c.args.size (columns c.args.ids.now c.args.hashes.now c.args.counts.now) r.wide r.counts)))),
-    )
+  c.requires.0,
+  rw c.place_count-k.ensures (range-sound c.args.size c.args.salt r.range),
+  omega arith,
+  table-count c.args.table.now r.table,
+  one-wide c.args.size _ (subst (Wide c.args.size) (sym (ap (columns c.args.ids.now c.args.hashes.now) c.negate.ensures ∙ negated-filled c.args.size c.args.ids.now c.args.hashes.now c.args.counts.now)) (wide-filled c.args.size c.args.size (λ i. neg (view (columns c.args.ids.now c.args.hashes.now c.args.counts.now) i)) (columns c.args.ids.now c.args.hashes.now c.args.counts.now) r.wide)),
+  one-small c.args.size (2 ^ 33) _ (subst (λ cs. Small c.args.size (2 ^ 33) (columns c.args.ids.now c.args.hashes.now cs)) (sym c.negate.ensures)
+      (small-more c.args.size (2 ^ 32) (2 ^ 33) _ (omega arith)
+      (negated-small c.args.size (2 ^ 32) c.args.ids.now c.args.hashes.now c.args.counts.now r.wide.counts
+      (counts-small c.args.size (columns c.args.ids.now c.args.hashes.now c.args.counts.now) r.wide r.counts)))),
+)
 
 pub returns : goal.returns
 unfolding difference

@@ -29,19 +29,19 @@ sample-requires c = let inv = c.loop-n.invariant in
 
 pub returns-in_default : goal.returns-in_default
 returns-in_default c = let read = c.read_one in
-    let left = columns read.new.hashes.0 read.new.hashes.1.0 read.new.hashes.1.1.0 in
+    let left = columns read.new.ids read.new.hashes read.new.counts in
     tally_stop (c.loop-n.n - 1) left c.loop-n.invariant (omega (arith, c.loop-n-test.true)) read.ensures.1
-    (sym c.enum_told-1.given.1 ∙ read.ensures.0) c.sample.ensures
+    (sym c.in_default.is ∙ read.ensures.0) c.sample.ensures
 
 pub overflow_add-total : goal.overflow_add-total
 overflow_add-total c = let read = c.read_one in
-    omega (arith, c.loop-n.invariant.bound, lists-few _ _ (sym c.listed-1.given.1 ∙ read.ensures.0))
+    omega (arith, c.loop-n.invariant.bound, lists-few _ _ (sym c.in-Lists.is ∙ read.ensures.0))
 
 pub loop-n-preserved : goal.loop-n-preserved
 loop-n-preserved c = let read = c.read_one in
-    let left = columns read.new.hashes.0 read.new.hashes.1.0 read.new.hashes.1.1.0 in
+    let left = columns read.new.ids read.new.hashes read.new.counts in
     tally_next (c.loop-n.n - 1) left c.loop-n.invariant (omega (arith, c.loop-n-test.true)) read.ensures.1
-    (sym c.listed-1.given.1 ∙ read.ensures.0) read.ensures.2
+    (sym c.in-Lists.is ∙ read.ensures.0) read.ensures.2
 
 pub returns : goal.returns
 returns c = tally_end c.loop-n.invariant (omega arith)

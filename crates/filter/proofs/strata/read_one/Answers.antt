@@ -23,6 +23,6 @@ returns c = let p = c.read_part in
     let a = c.args in
     let c₀ = columns a.ids.now a.hashes.now a.counts.now in (
       p.ensures.0 ∙ stratum-counted a.salt a.s c₀ c.requires.2 c.requires.3,
-      stratum-left a.salt a.s c₀ c.requires.2 c.requires.3 (columns p.new.hashes.0 p.new.hashes.1.0 p.new.hashes.1.1.0) p.ensures.1,
+      stratum-left a.salt a.s c₀ c.requires.2 c.requires.3 (columns p.new.ids p.new.hashes p.new.counts) p.ensures.1,
       p.ensures.2,
     )

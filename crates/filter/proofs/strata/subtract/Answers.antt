@@ -18,13 +18,13 @@ use Rattle.filter.proofs.strata.subtract.Goals.{At-loop-i}
 
 -- the columns as they were, those to subtract, and those of now
 abbrev was : At-loop-i → Columns
-was c = let a = c.before.args in columns a.ids.now a.hashes.now a.counts.now
+was c = let a = c.args in columns a.ids.now a.hashes.now a.counts.now
 
 abbrev others : At-loop-i → Columns
-others c = let a = c.before.args in columns a.ids2.now a.hashes2.now a.counts2.now
+others c = let a = c.args in columns a.ids2.now a.hashes2.now a.counts2.now
 
 abbrev are : At-loop-i → Columns
-are c = let w = c.loop in columns w.ids w.hashes w.counts
+are c = let w = c.loop-i in columns w.ids w.hashes w.counts
 
 wide : (c : At-loop-i) → Wide c.args.n (are c)
 wide c = subtracting_wide c.args.n (was c) (others c) (are c) c.loop-i.i c.loop-i.invariant c.requires.0
