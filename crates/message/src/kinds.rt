@@ -22,7 +22,7 @@ pub const IBF_LAST: u32 = 567;
 pub const DONE: u32 = 568;
 
 // The kind and numbers of a message. Its items stay in the bytes and are read by number (items).
-#[derive(Drop)]
+#[derive(Clone, Copy)]
 pub enum Message {
     // a slice of a filter that does not reach its end
     Ibf {

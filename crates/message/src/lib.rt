@@ -1,6 +1,7 @@
 // The messages of the protocol: every kind written, read and walked. The layer above `filter`; it knows no session.
 // Every public function answers every input; the definitions that the contracts cite stand in specs/.
 #![tactic(auto)]
+
 mod copying;
 mod fields;
 pub mod filters;

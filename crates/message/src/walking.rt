@@ -6,7 +6,7 @@ use crate::kinds::{Message, MessageNumbers};
 use filter::answers::Refusal;
 
 // What stands at a position.
-#[derive(Drop)]
+#[derive(Clone, Copy)]
 pub enum Walked {
     // a message from start up to next
     Found {

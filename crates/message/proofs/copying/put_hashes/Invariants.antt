@@ -1,0 +1,16 @@
+-- `copying::put_hashes` meets its contract. The loop's invariant: the first j numbers stand in the buffer, and nothing else has changed.
+-- Assumes nothing.
+use mathlib.Core.Path.{◌≡◌, ap, ◌∙◌}
+use Prim.Native.Nat.{ℕ, ◌+◌, ◌-◌, ◌≤◌}
+use native.Mathlib.Omega.{arith}
+use borrow.Author.Rules.{rules}
+use Rattle.bucket.specs.Digits.{packed}
+use Rattle.bucket.specs.Lists.{over, part}
+use Rattle.message.proofs.PutLaws.{Put, put-start, put_next}
+use Rattle.message.proofs.copying.put_hashes.Given as goal
+
+abbrev pub invariant-loop-j : goal.invariant-loop-j
+invariant-loop-j l = (l.j ≤ l.n) × Put 4 l.at l.from l.hashes l.initial.out l.out l.j
+
+abbrev pub decreases-loop-j : goal.decreases-loop-j
+decreases-loop-j l = l.n - l.j

@@ -1,0 +1,28 @@
+use Prim.Native.Nat.{◌-◌, ◌*◌, ◌≤◌}
+use native.Mathlib.Omega.{arith}
+use lib.ListN.{take}
+use borrow.Author.Rules.{rules}
+use Rattle.bucket.specs.Digits.{unpacked}
+use Rattle.bucket.specs.Lists.{part}
+use Rattle.bucket.proofs.OverLaws.{Laid, laid-start}
+use Rattle.message.proofs.LayLaws.{numbers-next, numbers-end}
+use Rattle.message.proofs.laying.lay_hashes.Goals as goal
+
+pub loop-j-init : goal.loop-j-init
+loop-j-init c = let a = c.args in
+    (omega arith, laid-start a.from a.hashes.now)
+
+pub bounds-hashes-from : goal.bounds-hashes-from
+bounds-hashes-from c = omega (arith, c.loop-j.invariant.1.same)
+
+pub loop-j-preserved : goal.loop-j-preserved
+loop-j-preserved c = let a = c.args in
+    let l = c.loop-j in
+    (omega arith, numbers-next 4 a.n a.at a.s.now a.from a.hashes.now c.word_at.result l.invariant.1 c.word_at.ensures (omega arith) (omega arith) (omega arith))
+
+pub shape_of-hashes : goal.shape_of-hashes
+shape_of-hashes c = c.loop-j.invariant.1.same
+
+pub returns : goal.returns
+returns c = let a = c.args in
+    numbers-end 4 a.n a.at a.s.now a.from a.hashes.now c.loop-j.j c.loop-j.invariant.1 (omega arith)
