@@ -132,10 +132,22 @@ def main(argv):
         return 1
     fields = {name for name, kind in kinds.items() if "field" in kind}
 
+    own = "|".join(sorted(path.parent.name for path in top.glob("crates/*/src")))
+
+    def of_library(text):
+        """The names that a file imports from the library."""
+        found = set()
+        for module, names in re.findall(r"^use ([^\s{]+)\.\{([^}]*)\}", text, re.M):
+            if not re.match(rf"Rattle\.({own})\.", module):
+                found |= {name.split(" as ")[-1].strip() for name in names.split(",")}
+        return found
+
     def turn(text, source):
+        kept = of_library(text)
+
         def one(match):
             token = match.group(0)
-            if token not in new_of:
+            if token not in new_of or token in kept:
                 return token
             if source and re.fullmatch(r"[a-z0-9_]+", token):
                 return token  # a function of src/ that has a lemma's name

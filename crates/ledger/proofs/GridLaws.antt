@@ -6,7 +6,7 @@
 --   slice-idle ..         so: where slices are admitted nothing has come, any other message finds a session under way, an ended one admits nothing
 use mathlib.Core.Path.{◌≡◌, refl, sym, ap, ap₂, subst, ◌∙◌}
 use mathlib.Core.Logic.{◌⊎◌, inl, inr}
-use mathlib.Core.Bool.{Bool, true, false, not, ◌&&◌, ◌||◌, cond, false≢true, and-false, and_true}
+use mathlib.Core.Bool.{Bool, true, false, not, ◌&&◌, ◌||◌, cond, false≢true, and-false, and-true}
 use mathlib.Core.List.{List, [], ◌∷◌}
 use Prim.Native.Nat.{ℕ, zero, suc, ◌≤◌, ◌<◌}
 use native.Mathlib.Nat.{le_trans}
@@ -96,7 +96,7 @@ slice-kind false = refl
 -- for a message that is no slice the grid has the last word
 pub admitted_other : (s : Session) (c : Content) → is_slice c ≡ false → admitted s c ≡ entry s.state (kind_of c)
 unfolding admitted
-admitted_other s c k = rw (k, and-false («in» s PASSIVE)) (and_true (entry s.state (kind_of c)))
+admitted_other s c k = rw (k, and-false («in» s PASSIVE)) (and-true (entry s.state (kind_of c)))
 
 admitted-entry : (s : Session) (c : Content) → admitted s c ≡ true → entry s.state (kind_of c) ≡ true
 unfolding admitted

@@ -2,7 +2,7 @@
 -- definitions, by examples, lists and laws. Assumes nothing.
 use Rattle.std.specs.Prelude.{◌≡◌, Bool, true, false, List, [], ◌∷◌, ◌++◌, map, ℕ, leb, pos, negsuc, length, replicate}
 use Rattle.std.proofs.Math.Path.{refl}
-use Rattle.std.proofs.Math.Bool.{and_assoc, and_true}
+use Rattle.std.proofs.Math.Bool.{and_assoc, and-true}
 use Rattle.bucket.specs.Bucket.{𝟎, neg, ◌⊕◌, is_zero}
 use Rattle.bucket.specs.Columns.{columns, view}
 use Rattle.bucket.specs.Crc.{tabulated}
@@ -175,7 +175,7 @@ reach (n ∷ ns) (m ∷ ms) = leb n m ∷ reach ns ms
 
 pub rooms : (G : Given) → has_rooms G ≡ every (reach (262208 ∷ 8192 ∷ 4096 ∷ 4096 ∷ 4096 ∷ 4096 ∷ 4096 ∷ 4096 ∷ 64 ∷ 295008 ∷ []) (lengths G))
 unfolding has_rooms has_ledger_room has_room every
-rooms G = simp (and_assoc, and_true)
+rooms G = simp (and_assoc, and-true)
 
 -- ---- refusals
 

@@ -12,7 +12,7 @@
 -- Each says that no message is refused, and what the ledger is then and what was sent, over the lists that the messages carry.
 -- Assumes nothing.
 use mathlib.Core.Path.{◌≡◌, refl, sym, ap, ◌∙◌, subst}
-use mathlib.Core.Bool.{Bool, true, false, ◌||◌, cond, and-false, and_true}
+use mathlib.Core.Bool.{Bool, true, false, ◌||◌, cond, and-false, and-true}
 use mathlib.Core.List.{List, [], ◌∷◌, ◌++◌, map, flatten, append-nil, map-append}
 use mathlib.Core.Logic.{◌⊎◌, inl, inr}
 use Prim.Native.Nat.{ℕ, ◌≤◌}
@@ -253,7 +253,7 @@ module _ (R : Rules) (t : List ℕ) (s : Session) where
     unfolding tests by_slice act change waits agrees checksum held
     hears_done q takes c f b l timely same =
         let s1 : Session = put s q f (led inquired asked offered served l l b) in
-        rw (all-met l b, and-false (eqb q PASSIVE), and_true (eqb q PASSIVE), append-nil) at
+        rw (all-met l b, and-false (eqb q PASSIVE), and-true (eqb q PASSIVE), append-nil) at
         (hear R t s1 (done c) 0 refl (admits s1 (done c) refl takes)
         (of_implies (eqb q ACTIVE) b timely, (rw (all-met l b, and-false (eqb q PASSIVE), same) (eqb_self (sum (l ∪ [] ∪ t))), tt)))
 
