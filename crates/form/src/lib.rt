@@ -2,6 +2,7 @@
 // numbers that are answered.
 // The layer below `session`.
 #![tactic(auto)]
+
 mod fronts;
 pub mod grid;
 mod judging;

@@ -9,7 +9,7 @@ ghost use Rattle.form.specs.Tallies.{common, idle, form_by, tallied, tally_of, c
 use ledger::numbers::{ACTIVE, EXPECTING, EXPECTING_LAST, Numbers, PASSIVE};
 
 // Whether the ledger has its form; how many IDs are held or wanted, how many inquired ones are held, and how many demands are unmet.
-#[derive(Drop)]
+#[derive(Clone, Copy)]
 pub struct Tally {
     pub good: bool,
     pub concerned: usize,
@@ -18,7 +18,7 @@ pub struct Tally {
 }
 
 // How many IDs of the demanded are the table's, of the inquired the table's, and of the demanded inquired.
-#[derive(Drop)]
+#[derive(Clone, Copy)]
 pub(crate) struct Shared {
     pub(crate) both: usize,
     pub(crate) table: usize,

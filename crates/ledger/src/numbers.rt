@@ -37,7 +37,7 @@ pub const LIMIT: u32 = 10;
 
 // What a caller keeps of a session beside its memory.
 #[repr(C)]
-#[derive(Drop)]
+#[derive(Clone, Copy)]
 pub struct Numbers {
     pub state: u32,
     // 1 from the entry to Passive Decoding until a message has come
@@ -57,7 +57,7 @@ pub struct Numbers {
 
 // What a call answers: the refusal's number, how many bytes of messages were written, how many bare hashes, and the session's numbers now.
 #[repr(C)]
-#[derive(Drop)]
+#[derive(Clone, Copy)]
 pub struct Answer {
     pub refusal: u32,
     pub sent: usize,

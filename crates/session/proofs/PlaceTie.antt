@@ -1,5 +1,5 @@
 -- Where a ledger's elements have their marks: the place of an ID and of a hash, which hash stands there, which bits its mark has, and what one
--- mark changed makes of the memory. Marks are those of a ledger laid over memory (LaidLaws.laidMarks). Assumes nothing.
+-- mark changed makes of the memory. Marks are those of a ledger laid over memory (LaidLaws.laid_marks). Assumes nothing.
 --
 --   Ordered                             table and demanded hashes ascend, by hashes and by IDs, and have room
 --   spot x, known h                     whose ID it is, and which hash

@@ -120,13 +120,13 @@ module _ (derive : ℕ → ℕ) (G : Given) (form : good_form derive G ≡ true)
   -- it is read as filter's call reads the columns with the slice laid into them
   pub call_reads : read_of derive (table_of G) (session_of derive G) (said_in G) size salt
       ≡ read_call derive size salt G.table (laid (said_in G) G.columns) G.ours G.theirs
-  call_reads = Reads.call-reads derive G form rooms size offset salt width n e order
+  call_reads = Reads.call_reads derive G form rooms size offset salt width n e order
 
   -- a complete reading is trusted: the received filter is that of our IDs less those listed as ours, which are of them, plus those listed as theirs, and
   -- what it is made from is a set
   pub call_trusted : let r = read_of derive (table_of G) (session_of derive G) (said_in G) size salt in
       is_complete r ≡ true → Trusted derive G.table (session_of derive G) (said_in G) size salt r
-  call_trusted = Reads.call-trusted derive G form rooms size offset salt width n e order
+  call_trusted = Reads.call_trusted derive G form rooms size offset salt width n e order
 
   -- a filter made by the rules from IDs of the far end is read exactly, where in no part of the difference a bucket shared by several looks pure: the true
   -- difference less its largest stopping set, complete exactly if there is none
@@ -135,4 +135,4 @@ module _ (derive : ℕ → ℕ) (G : Given) (form : good_form derive G ≡ true)
       → Clear (filter_rule size salt) (differing (ids_of derive (table_of G)) far)
       → let r = read_of derive (table_of G) (session_of derive G) (said_in G) size salt in
       (r.answer.refusal ≡ 0) × Exactly (filter_rule size salt) (ids_of derive (table_of G)) far (ours_in r) (theirs_in r) (is_complete r)
-  call_exact = Reads.call-exact derive G form rooms size offset salt width n e order
+  call_exact = Reads.call_exact derive G form rooms size offset salt width n e order

@@ -284,7 +284,7 @@ module _ (derive : ℕ → ℕ) (bound : (h : ℕ) → h < 2 ^ 512 → derive h 
   call_session hash bs out = go (step_call derive G) (heard derive G) (call_leaves derive G form rooms lent.message)
     where
       go : (l : Left) (o : Outcome) → Leaves derive G l o → session_of derive (back G l hash bs out) ≡ o.session
-      go l o (acted c g e is made) =
+      go l o (acted c g e is _) =
           let n : ℕ = refusal derive (table_of G) (hash_given G) (session_of derive G) c in
           ap (λ (k : Left). session_of derive (back G k hash bs out)) is
           ∙ handed_back derive n o G hash bs out (subst (λ (p : Outcome). Roomy G p.session) (sym made) (acted-roomy c g e))
@@ -300,6 +300,6 @@ module _ (derive : ℕ → ℕ) (bound : (h : ℕ) → h < 2 ^ 512 → derive h 
       none = unfold layouts packed groups in sym (over-nil 0 G.out)
 
       go : (l : Left) (o : Outcome) → Leaves derive G l o → Answers G l o
-      go l o (acted c g e is made) = subst (λ (k : Left). Answers G k o) (sym is) (unfold went in (refl, refl, refl))
+      go l o (acted c g e is _) = subst (λ (k : Left). Answers G k o) (sym is) (unfold went in (refl, refl, refl))
       go l o (stopped_by n u e is made) =
           subst (λ (k : Left). Answers G k o) (sym is) (subst (Answers G (ended n u G)) (sym made) (unfold layouts in (refl, refl, none)))

@@ -148,7 +148,7 @@ module _ {S M : Type 0} (next : S → M → S) (says : S → M → List M) where
       }
   hears_then {a} {a'} {a''} {ms = m ∷ ms} {ns} {out} {out'} h k =
       let g : Hears (next a m) ms a' (reply (next a m) ms) = record { after = h.after; said = refl } in
-      let ih = hears_then g k in
+      let ih = hears_then {a = next a m} {ms = ms} g k in
       record {
         after = ih.after;
         said =

@@ -1,0 +1,16 @@
+-- `judging::marks_are_zero` meets its contract: what was found so far and the marks from i on decide. The measure is what is left of them.
+-- Assumes nothing.
+use mathlib.Core.Path.{sym, ap}
+use Prim.Native.Nat.{ℕ, ◌-◌}
+use native.Mathlib.Nat.{zero-add}
+use native.Mathlib.Omega.{arith}
+use lib.ListN.{get_or}
+use Rattle.form.specs.Tallies.{is_zero}
+use Rattle.form.proofs.AllOfLaws.{Tested, tested_start, tested_next, tested_end}
+use Rattle.form.proofs.judging.marks_are_zero.Given as goal
+
+abbrev pub invariant-loop-i : goal.invariant-loop-i
+invariant-loop-i l = Tested is_zero 0 l.n l.marks l.good l.i
+
+abbrev pub decreases-loop-i : goal.decreases-loop-i
+decreases-loop-i l = l.n - l.i

@@ -1,0 +1,17 @@
+-- `judging::table_marks_fit` meets its contract: what was found so far and the marks from i on decide. The measure is what is left of them.
+-- Assumes nothing.
+use mathlib.Core.Path.{sym, ap, ◌∙◌}
+use Prim.Native.Nat.{ℕ, ◌-◌}
+use native.Mathlib.Nat.{zero-add}
+use native.Mathlib.Omega.{arith}
+use lib.ListN.{get_or}
+use borrow.Author.Rules.{rules}
+use Rattle.form.specs.Tallies.{table_mark}
+use Rattle.form.proofs.AllOfLaws.{Tested, tested_start, tested_next, tested_end}
+use Rattle.form.proofs.judging.table_marks_fit.Given as goal
+
+abbrev pub invariant-loop-i : goal.invariant-loop-i
+invariant-loop-i l = Tested table_mark 0 l.n l.marks l.good l.i
+
+abbrev pub decreases-loop-i : goal.decreases-loop-i
+decreases-loop-i l = l.n - l.i
