@@ -1,0 +1,21 @@
+-- `session::asking::ask_all` meets its contract. The invariant: the walk has come to item i. The measure is how many items are left.
+-- Assumes nothing.
+use mathlib.Core.Path.{sym, ap, ◌∙◌}
+use mathlib.Core.Logic.{⊎_elim}
+use mathlib.Core.Bool.{Bool, ◌||◌}
+use Prim.Native.Nat.{◌*◌, ◌-◌, ◌<◌}
+use native.Mathlib.Omega.{arith}
+use lib.Dec.{leb}
+use lib.ListN.{length}
+use Rattle.bucket.specs.Digits.{unpacked}
+use Rattle.bucket.specs.Lists.{part}
+use Rattle.session.proofs.PlaceLaws.{held-placed, place-placed, table-short}
+use Rattle.session.proofs.AskLaws.{item_read, items_inside, items_past, asked-few, Asking, asking-start, asking_passes, asking-stops, asking-next, asking-end}
+use borrow.Author.Rules.{rules}
+use Rattle.session.proofs.asking.ask_all.Given as goal
+
+abbrev pub invariant-loop-i : goal.invariant-loop-i
+invariant-loop-i l = Asking l.table l.known l.initial.marks l.initial.hashes (unpacked 64 l.n (part 8 (8 * l.n) l.message)) l.marks l.hashes l.m l.i
+
+abbrev pub decreases-loop-i : goal.decreases-loop-i
+decreases-loop-i l = l.n - l.i

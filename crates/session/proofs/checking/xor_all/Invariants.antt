@@ -1,0 +1,17 @@
+-- `checking::xor_all` meets its contract: what was added so far is the sum of the hashes before i. The measure is what is left of them.
+-- Assumes nothing.
+use mathlib.Core.Path.{◌≡◌}
+use Prim.Native.Nat.{◌-◌}
+use native.Mathlib.Omega.{arith}
+use lib.ListN.{length}
+use borrow.Author.Rules.{rules}
+use Rattle.filter.specs.Table.{hashes_of}
+use Rattle.filter.proofs.TableLaws.{hashes-length}
+use Rattle.session.proofs.XorSumLaws.{Added, added_start, added_next, added_end}
+use Rattle.session.proofs.checking.xor_all.Given as goal
+
+abbrev pub invariant-loop-i : goal.invariant-loop-i
+invariant-loop-i l = (l.n ≡ length (hashes_of l.s)) × Added l.s l.initial.acc l.acc l.i
+
+abbrev pub decreases-loop-i : goal.decreases-loop-i
+decreases-loop-i l = l.n - l.i

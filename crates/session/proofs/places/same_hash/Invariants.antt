@@ -1,0 +1,15 @@
+-- `session::places::same_hash` meets its contract. The invariant: the first k bytes are the same. The measure is what is left of the 64.
+-- Assumes nothing.
+use mathlib.Core.Path.{◌≡◌, refl}
+use Prim.Native.Nat.{◌-◌, ◌≤◌}
+use native.Mathlib.Omega.{arith}
+use Rattle.bucket.specs.Lists.{part}
+use Rattle.session.proofs.PlaceLaws.{same_next, same_ends, same-all}
+use borrow.Author.Rules.{rules}
+use Rattle.session.proofs.places.same_hash.Given as goal
+
+abbrev pub invariant-loop-k : goal.invariant-loop-k
+invariant-loop-k l = (l.k ≤ 64) × (part l.i l.k l.a ≡ part l.j l.k l.b)
+
+abbrev pub decreases-loop-k : goal.decreases-loop-k
+decreases-loop-k l = 64 - l.k

@@ -1,0 +1,19 @@
+-- `sending::send_inquiries` meets its contract: given its room, the writer writes. Assumes nothing.
+use mathlib.Core.Path.{◌∙◌}
+use borrow.Author.Rules.{rules}
+use Rattle.message.specs.Writing.{inquiries_of}
+use Rattle.ledger.proofs.SendLaws.{sent_to, not_refused, inquiry_writes}
+use Rattle.session.proofs.sending.send_inquiries.Goals as goal
+
+pub returns-in_default : goal.returns-in_default
+returns-in_default c = let a = c.args in
+    absurd
+    (not_refused (inquiries_of a.salt a.ids.now) a.at a.out.now
+    (c.inquiry.ensures ∙ inquiry_writes a.salt a.ids.now a.at a.out.now c.requires.0 c.requires.1)
+    c.in_default.is)
+
+pub returns : goal.returns
+returns c = let a = c.args in
+    sent_to (inquiries_of a.salt a.ids.now) a.at a.out.now
+    (c.inquiry.ensures ∙ inquiry_writes a.salt a.ids.now a.at a.out.now c.requires.0 c.requires.1)
+    c.in-To.is
