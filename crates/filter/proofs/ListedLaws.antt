@@ -14,7 +14,7 @@ use mir.Val.{of_z, hbits}
 use Rattle.bucket.specs.Bucket.{is_one}
 use Rattle.bucket.specs.Lists.{over}
 use Rattle.bucket.proofs.OverLaws.{over-nil, over-length, over-set}
-use Rattle.filter.specs.Filter.{Item, ours, theirs, ours_of, theirs_of}
+use Rattle.filter.specs.Filter.{Item, ours_of, theirs_of}
 use Rattle.filter.specs.Peeling.{sided}
 use Rattle.filter.specs.Steps.{Listed}
 use Rattle.filter.proofs.SideLaws.{sides_length}

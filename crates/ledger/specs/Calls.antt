@@ -11,7 +11,7 @@
 -- 64 bytes of the far checksum. `marks`: a mark for each element of the table, and from 4,096 on one for each hash demanded. `inquired`: IDs,
 -- ascending. Places behind what the numbers count are neither judged nor changed.
 -- Assumes nothing.
-use Rattle.std.specs.Prelude.{Bool, not, ◌&&◌, cond, List, [], ◌∷◌, ◌++◌, ℕ, ◌+◌, ◌-◌, ◌*◌, ◌/◌, min, eqb, leb, length, take, replicate}
+use Rattle.std.specs.Prelude.{Bool, not, ◌&&◌, cond, List, [], ◌∷◌, ◌++◌, ℕ, ◌-◌, ◌*◌, ◌/◌, min, eqb, leb, length, take, replicate}
 use Rattle.bucket.specs.Columns.{Columns}
 use Rattle.bucket.specs.Digits.{joined, packed}
 use Rattle.bucket.specs.Lists.{over, part}

@@ -18,7 +18,6 @@ use lib.Pow.{pow_pos}
 use Rattle.bucket.specs.Columns.{Columns}
 use Rattle.bucket.specs.Digits.{joined, Below}
 use Rattle.bucket.specs.Lists.{over}
-use Rattle.bucket.specs.Packing.{number}
 use Rattle.filter.specs.declared.answers.Refusal.{Refusal}
 use Rattle.filter.specs.declared.answers.Refusal.TheVariants.{None, Form, Room, Range, Malformed}
 use Rattle.filter.specs.Answers.{refusal_number, first_of}

@@ -1,13 +1,9 @@
 -- `bucket::bytes::joined_at` meets its contract. The invariant: v is the number in the j bytes read, so v is below 2 ^ (8 * j), and eight bytes
 -- fit a u64. The measure is what is left of the bytes. Assumes nothing.
-use mathlib.Core.Path.{◌≡◌, sym, ap, ap₂, ◌∙◌}
-use Prim.Native.Nat.{ℕ, ◌+◌, ◌-◌, ◌*◌, ◌≤◌}
-use native.Mathlib.Omega.{arith}
-use borrow.Author.Rules.{rules}
-use lib.Pow.{pow_mono}
+use mathlib.Core.Path.{◌≡◌}
+use Prim.Native.Nat.{◌-◌, ◌≤◌}
 use Rattle.bucket.specs.Digits.{joined}
 use Rattle.bucket.specs.Lists.{part}
-use Rattle.bucket.proofs.OverLaws.{number_lt, number_suc}
 use Rattle.bucket.proofs.bytes.joined_at.Given as goal
 
 abbrev pub invariant-loop-j : goal.invariant-loop-j

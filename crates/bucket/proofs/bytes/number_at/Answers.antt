@@ -5,7 +5,6 @@ use Prim.Native.Nat.{min}
 use Rattle.bucket.specs.Digits.{joined}
 use Rattle.bucket.proofs.OverLaws.{part-min, part-past}
 use native.Mathlib.Omega.{arith}
-use borrow.Author.Rules.{rules}
 use Rattle.bucket.proofs.bytes.number_at.Goals as goal
 
 pub returns-then-s-at : goal.returns-then-s-at

@@ -1,12 +1,11 @@
 use mathlib.Core.Path.{◌≡◌, ap, ap₂, ◌∙◌}
-use Prim.Native.Nat.{ℕ, ◌+◌, ◌-◌, ◌*◌, ◌/◌, ◌%◌, ◌^◌, ◌≤◌}
+use Prim.Native.Nat.{ℕ, ◌+◌, ◌-◌, ◌*◌, ◌/◌, ◌%◌, ◌^◌}
 use native.Mathlib.Nat.{div-one}
 use native.Mathlib.Omega.{arith}
-use borrow.Author.Rules.{rules}
 use Rattle.bucket.specs.Digits.{groups}
 use Rattle.bucket.specs.Lists.{over}
 use Rattle.bucket.proofs.DigitLaws.{groups-length, byte_next}
-use Rattle.bucket.proofs.OverLaws.{Laid, laid-start, laid_next}
+use Rattle.bucket.proofs.OverLaws.{laid-start, laid_next}
 use Rattle.bucket.proofs.bytes.put_groups.Goals as goal
 
 pub loop-j-init : goal.loop-j-init

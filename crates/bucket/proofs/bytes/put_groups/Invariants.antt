@@ -1,14 +1,8 @@
 -- `bucket::bytes::put_groups` meets its contract. The invariant: the j highest of the k bytes of x lie over the bytes from the position on.
 -- The measure is what is left of the bytes. Assumes nothing.
-use mathlib.Core.Path.{◌≡◌, ap, ap₂, ◌∙◌}
-use Prim.Native.Nat.{ℕ, ◌+◌, ◌-◌, ◌*◌, ◌/◌, ◌%◌, ◌^◌, ◌≤◌}
-use native.Mathlib.Nat.{div-one}
-use native.Mathlib.Omega.{arith}
-use borrow.Author.Rules.{rules}
+use Prim.Native.Nat.{◌-◌, ◌*◌, ◌/◌, ◌^◌, ◌≤◌}
 use Rattle.bucket.specs.Digits.{groups}
-use Rattle.bucket.specs.Lists.{over}
-use Rattle.bucket.proofs.DigitLaws.{groups-length, byte_next}
-use Rattle.bucket.proofs.OverLaws.{Laid, laid-start, laid_next}
+use Rattle.bucket.proofs.OverLaws.{Laid}
 use Rattle.bucket.proofs.bytes.put_groups.Given as goal
 
 abbrev pub invariant-loop-j : goal.invariant-loop-j

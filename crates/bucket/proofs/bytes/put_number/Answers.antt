@@ -8,7 +8,6 @@ use borrow.Author.Tests.{le-leb, lt-leb}
 use Rattle.bucket.specs.Digits.{put_into}
 use Rattle.bucket.proofs.TestLaws.{and_fails, and_holds, cond-kept, cond-made}
 use native.Mathlib.Omega.{arith}
-use borrow.Author.Rules.{rules}
 use Rattle.bucket.proofs.bytes.put_number.Goals as goal
 
 pub returns-then-k-gt8 : goal.returns-then-k-gt8

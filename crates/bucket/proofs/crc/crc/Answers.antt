@@ -1,7 +1,6 @@
 use mathlib.Core.Path.{◌≡◌, refl}
-use Prim.Native.Nat.{suc, ◌-◌, ◌≤◌}
+use Prim.Native.Nat.{suc, ◌-◌}
 use native.Mathlib.Omega.{arith}
-use borrow.Author.Rules.{rules}
 use Rattle.bucket.specs.Crc.{crc_of, crc32, feed}
 use Rattle.bucket.specs.Digits.{groups}
 use Rattle.bucket.proofs.crc.crc.Goals as goal

@@ -1,10 +1,8 @@
 -- `bucket::crc::crc` meets its contract: the bytes that are left, fed from `c`, give what all eight give from the start.
 -- Assumes nothing.
-use mathlib.Core.Path.{◌≡◌, refl}
-use Prim.Native.Nat.{suc, ◌-◌, ◌≤◌}
-use native.Mathlib.Omega.{arith}
-use borrow.Author.Rules.{rules}
-use Rattle.bucket.specs.Crc.{crc_of, crc32, feed}
+use mathlib.Core.Path.{◌≡◌}
+use Prim.Native.Nat.{◌≤◌}
+use Rattle.bucket.specs.Crc.{feed}
 use Rattle.bucket.specs.Digits.{groups}
 use Rattle.bucket.proofs.crc.crc.Given as goal
 

@@ -1,5 +1,4 @@
 -- `bucket::crc::crc_by` meets its contract: all eight bytes are looked up from row 0. Assumes nothing.
-use borrow.Author.Rules.{rules}
 use Rattle.bucket.specs.Crc.{crc_by}
 use Rattle.bucket.proofs.crc.crc_by.Goals as goal
 

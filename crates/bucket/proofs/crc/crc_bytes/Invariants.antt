@@ -1,14 +1,9 @@
 -- `bucket::crc::crc_bytes` meets its contract: the bytes that are left, fed from `c`, give what all give from the start.
 -- Assumes nothing.
-use mathlib.Core.Path.{◌≡◌, refl}
-use mathlib.Core.List.{[], ◌∷◌}
-use Prim.Native.Nat.{◌+◌, ◌-◌, ◌≤◌}
-use native.Mathlib.Numerals.{add-one}
-use native.Mathlib.Omega.{arith}
-use borrow.Author.Rules.{rules}
-use lib.ListN.{length, get_or, drop, drop_of_length-le}
-use lib.Seq.{drop-cons}
-use Rattle.bucket.specs.Crc.{crc32, feed}
+use mathlib.Core.Path.{◌≡◌}
+use Prim.Native.Nat.{◌-◌, ◌≤◌}
+use lib.ListN.{length, drop}
+use Rattle.bucket.specs.Crc.{feed}
 use Rattle.bucket.proofs.crc.crc_bytes.Given as goal
 
 abbrev pub invariant-loop-i : goal.invariant-loop-i

@@ -1,8 +1,5 @@
-use mathlib.Core.Path.{◌≡◌, refl, sym, ◌∙◌}
-use Prim.Native.Nat.{◌≤◌}
+use mathlib.Core.Path.{refl, sym, ◌∙◌}
 use native.Mathlib.Omega.{arith}
-use borrow.Author.Rules.{rules}
-use Rattle.bucket.specs.Crc.{looked_up}
 use Rattle.bucket.proofs.TableLaws.{looked_up_more, looked_up_none}
 use Rattle.bucket.proofs.crc.looked_up.Goals as goal
 

@@ -1,11 +1,8 @@
 -- `bucket::crc::looked_up` meets its contract: the bytes that are left, looked up from c, give what all n give from the start.
 -- Assumes nothing.
-use mathlib.Core.Path.{◌≡◌, refl, sym, ◌∙◌}
+use mathlib.Core.Path.{◌≡◌}
 use Prim.Native.Nat.{◌≤◌}
-use native.Mathlib.Omega.{arith}
-use borrow.Author.Rules.{rules}
 use Rattle.bucket.specs.Crc.{looked_up}
-use Rattle.bucket.proofs.TableLaws.{looked_up_more, looked_up_none}
 use Rattle.bucket.proofs.crc.looked_up.Given as goal
 
 abbrev pub invariant-loop-k : goal.invariant-loop-k

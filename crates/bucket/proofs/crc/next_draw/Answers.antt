@@ -1,6 +1,5 @@
 -- `bucket::crc::next_draw` meets its contract: the four bytes of d are looked up from row 4, and the lowest of i in row 0. Assumes nothing.
 use mathlib.Core.Path.{ap, ◌∙◌}
-use borrow.Author.Rules.{rules}
 use Rattle.bucket.specs.Crc.{looked_up, next_by}
 use Rattle.bucket.proofs.crc.next_draw.Goals as goal
 

@@ -1,9 +1,7 @@
 -- `bucket::crc::octet` meets its contract: what is left to do of the eight steps, done from `v`, gives the eight steps from `c`.
 -- Assumes nothing.
-use mathlib.Core.Path.{◌≡◌, refl}
-use Prim.Native.Nat.{suc, ◌+◌, ◌-◌, ◌≤◌}
-use native.Mathlib.Omega.{arith}
-use borrow.Author.Rules.{rules}
+use mathlib.Core.Path.{◌≡◌}
+use Prim.Native.Nat.{◌-◌, ◌≤◌}
 use Rattle.bucket.specs.Crc.{steps}
 use Rattle.bucket.proofs.crc.octet.Given as goal
 

@@ -1,8 +1,6 @@
 use mathlib.Core.Path.{◌≡◌, refl, ap, subst, ◌∙◌}
-use mathlib.Core.Logic.{⊎_elim}
 use Prim.Native.Nat.{ℕ, ◌-◌}
 use native.Mathlib.Omega.{arith}
-use borrow.Author.Rules.{rules}
 use Rattle.bucket.specs.Crc.{steps, entry, crc_tables}
 use Rattle.bucket.proofs.TableLaws.{Filled, filled-all, filled_more, entry_first, entry_next}
 use Rattle.bucket.proofs.crc.tables.Goals as goal

@@ -1,12 +1,8 @@
 -- `bucket::crc::tables` meets its contract: the first i entries go by the rule, each row made from the one before it.
 -- Assumes nothing.
-use mathlib.Core.Path.{◌≡◌, refl, ap, subst, ◌∙◌}
-use mathlib.Core.Logic.{⊎_elim}
-use Prim.Native.Nat.{ℕ, ◌-◌}
-use native.Mathlib.Omega.{arith}
-use borrow.Author.Rules.{rules}
-use Rattle.bucket.specs.Crc.{steps, entry, crc_tables}
-use Rattle.bucket.proofs.TableLaws.{Filled, filled-all, filled_more, entry_first, entry_next}
+use Prim.Native.Nat.{◌-◌}
+use Rattle.bucket.specs.Crc.{entry}
+use Rattle.bucket.proofs.TableLaws.{Filled}
 use Rattle.bucket.proofs.crc.tables.Given as goal
 
 abbrev pub invariant-loop-i : goal.invariant-loop-i

@@ -1,12 +1,11 @@
 use mathlib.Core.Path.{◌≡◌, refl}
 use mathlib.Core.Bool.{Bool, true, false}
-use Prim.Native.Nat.{ℕ, ◌-◌}
+use Prim.Native.Nat.{ℕ}
 use native.Mathlib.Omega.{arith}
 use lib.Dec.{ltb}
 use lib.ListN.{length, get_or, get_or-eq_default}
-use borrow.Author.Rules.{rules}
 use borrow.Author.Tests.{ltb-true, ltb-false}
-use Rattle.bucket.proofs.TableLaws.{Filled, filled_more}
+use Rattle.bucket.proofs.TableLaws.{filled_more}
 use Rattle.bucket.proofs.packing.clear.Goals as goal
 
 pub loop-i-init : goal.loop-i-init

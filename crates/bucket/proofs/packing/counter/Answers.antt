@@ -1,14 +1,12 @@
 use mathlib.Core.Path.{◌≡◌}
-use Prim.Native.Nat.{◌+◌, ◌-◌, ◌*◌, ◌^◌, ◌≤◌, ◌<◌}
+use Prim.Native.Nat.{◌+◌, ◌*◌, ◌^◌, ◌≤◌, ◌<◌}
 use native.Mathlib.Nat.{mod-lt}
 use lib.ListN.{length}
 use lib.Pow.{pow-add, pow_mono}
-use Rattle.bucket.specs.Digits.{bit_at}
-use Rattle.bucket.proofs.BitLaws.{Read, read_next}
+use Rattle.bucket.proofs.BitLaws.{read_next}
 use Rattle.bucket.proofs.ReadLaws.{counter_read}
 use Rattle.bucket.proofs.RoomLaws.{Room, room-reach}
 use native.Mathlib.Omega.{arith}
-use borrow.Author.Rules.{rules}
 use Rattle.bucket.proofs.packing.counter.Goals as goal
 use Rattle.bucket.proofs.packing.counter.Goals.{After-bit_at, In-loop-k, Start}
 

@@ -3,7 +3,6 @@ use mathlib.Core.Path.{◌∙◌}
 use Rattle.bucket.proofs.TestLaws.{test_refused, test_granted}
 use Rattle.bucket.proofs.ReadLaws.{counter_not, counter_here, counter_past}
 use native.Mathlib.Omega.{arith}
-use borrow.Author.Rules.{rules}
 use Rattle.std.proofs.Common.{ap}
 use mathlib.Core.Bool.{not}
 use Rattle.bucket.proofs.packing.counter_at.Goals as goal

@@ -1,11 +1,9 @@
 use mathlib.Core.Path.{◌≡◌, sym, ap, ◌∙◌}
 use mathlib.Core.Bool.{Bool, ◌&&◌}
-use Prim.Native.Nat.{◌-◌}
 use lib.IntN.{pos}
-use lib.ListN.{length, get_or}
-use borrow.Author.Rules.{rules}
+use lib.ListN.{get_or}
 use Rattle.bucket.specs.Packing.{is_width, has_bits, fits_in}
-use Rattle.bucket.proofs.NumberLaws.{count-stored, Fitting, fitting_start, fitting_next, fitting_not, fitting_end}
+use Rattle.bucket.proofs.NumberLaws.{count-stored, fitting_start, fitting_next, fitting_not, fitting_end}
 use Rattle.bucket.proofs.RoomLaws.{width_low, width-high, width-good}
 use Rattle.bucket.proofs.TestLaws.{and_fails, and_holds, test_refused, test_granted}
 use native.Mathlib.Omega.{arith}

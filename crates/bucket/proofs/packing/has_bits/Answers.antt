@@ -7,7 +7,6 @@ use native.Mathlib.Omega.{arith}
 use lib.Dec.{ltb}
 use lib.Pow.{shl_exact}
 use Rattle.bucket.proofs.NumberLaws.{bits-low, bits-high}
-use borrow.Author.Rules.{rules}
 use Rattle.bucket.proofs.packing.has_bits.Goals as goal
 
 pub returns-then-c-lt0 : goal.returns-then-c-lt0

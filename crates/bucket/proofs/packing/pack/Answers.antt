@@ -10,7 +10,6 @@ use Rattle.bucket.proofs.PackedLaws.{packed-length}
 use Rattle.bucket.proofs.RoomLaws.{Room, takes-room, takes-fits}
 use Rattle.bucket.proofs.TestLaws.{and_fails, and_holds, cond-kept, cond-made, test_refused, test_granted}
 use native.Mathlib.Omega.{arith}
-use borrow.Author.Rules.{rules}
 use borrow.Rule.Slice.PartMut.{mid_len}
 use mathlib.Core.Bool.{not}
 use Rattle.bucket.proofs.packing.pack.Goals as goal

@@ -4,14 +4,13 @@ use native.Mathlib.Nat.{mod-lt, mul_comm, div-lt_iff_lt-mul}
 use lib.Bits.{bit_or}
 use lib.IntN.{pos}
 use lib.ListN.{length, get_or, length-map, length-set, get_or-map}
-use Rattle.bucket.specs.Digits.{bytes_for, bit_at}
+use Rattle.bucket.specs.Digits.{bit_at}
 use Rattle.bucket.specs.Packing.{number, numbers}
-use Rattle.bucket.proofs.BitLaws.{Written, written_none, written_next}
+use Rattle.bucket.proofs.BitLaws.{written_none, written_next}
 use Rattle.bucket.proofs.NumberLaws.{count-stored}
 use Rattle.bucket.proofs.PackedLaws.{written-packed}
 use Rattle.bucket.proofs.RoomLaws.{bits-few}
 use native.Mathlib.Omega.{arith}
-use borrow.Author.Rules.{rules}
 use Rattle.bucket.proofs.packing.pack_bits.Goals as goal
 use Rattle.bucket.proofs.packing.pack_bits.Goals.{After-bit_of-bit, In-loop-j, Start}
 

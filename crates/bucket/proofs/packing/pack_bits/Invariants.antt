@@ -1,19 +1,11 @@
 -- `bucket::packing::pack_bits` meets its contract. The invariant: packed bit k is bit k mod w of counter k / w for every k below j, and zero from j on. The
 -- measure is what is left of the bits. Assumes nothing.
-use mathlib.Core.Path.{◌≡◌, sym, ap, ◌∙◌}
-use Prim.Native.Nat.{ℕ, ◌-◌, ◌*◌, ◌/◌, ◌%◌, ◌^◌, ◌≤◌, ◌<◌}
-use native.Mathlib.Nat.{mod-lt, mul_comm, div-lt_iff_lt-mul}
-use lib.Bits.{bit_or}
-use lib.IntN.{pos}
-use lib.ListN.{length, get_or, length-map, length-set, get_or-map}
+use mathlib.Core.Path.{◌≡◌}
+use Prim.Native.Nat.{◌-◌, ◌*◌, ◌≤◌}
+use lib.ListN.{length}
 use Rattle.bucket.specs.Digits.{bytes_for, bit_at}
-use Rattle.bucket.specs.Packing.{number, numbers}
-use Rattle.bucket.proofs.BitLaws.{Written, written_none, written_next}
-use Rattle.bucket.proofs.NumberLaws.{count-stored}
-use Rattle.bucket.proofs.PackedLaws.{written-packed}
-use Rattle.bucket.proofs.RoomLaws.{bits-few}
-use native.Mathlib.Omega.{arith}
-use borrow.Author.Rules.{rules}
+use Rattle.bucket.specs.Packing.{numbers}
+use Rattle.bucket.proofs.BitLaws.{Written}
 use Rattle.bucket.proofs.packing.pack_bits.Given as goal
 
 abbrev pub invariant-loop-j : goal.invariant-loop-j

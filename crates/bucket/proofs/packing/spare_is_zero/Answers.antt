@@ -1,14 +1,13 @@
 use mathlib.Core.Path.{◌≡◌, sym, ◌∙◌}
 use mathlib.Core.Bool.{true}
-use Prim.Native.Nat.{ℕ, ◌+◌, ◌-◌, ◌*◌, ◌≤◌, ◌<◌}
+use Prim.Native.Nat.{◌*◌}
 use lib.ListN.{length}
-use Rattle.bucket.specs.Digits.{bytes_for, bit_at}
+use Rattle.bucket.specs.Digits.{bytes_for}
 use Rattle.bucket.specs.Packing.{takes}
 use Rattle.bucket.proofs.ReadLaws.{bare_not, bare-here, spare-read, spare-found}
 use Rattle.bucket.proofs.RoomLaws.{Room, takes-room}
 use Rattle.bucket.proofs.TestLaws.{each_more, test_refused, test_granted}
 use native.Mathlib.Omega.{arith}
-use borrow.Author.Rules.{rules}
 use borrow.Author.Tests.{eq-eqb}
 use Rattle.std.proofs.Common.{ap}
 use mathlib.Core.Bool.{not}

@@ -1,19 +1,8 @@
 -- `bucket::packing::spare_is_zero` meets its contract. The invariant: the spare bits before bit j are zero. The measure is what is left of the bits.
 -- Assumes nothing.
-use mathlib.Core.Path.{◌≡◌, sym, ◌∙◌}
-use mathlib.Core.Bool.{true}
+use mathlib.Core.Path.{◌≡◌}
 use Prim.Native.Nat.{ℕ, ◌+◌, ◌-◌, ◌*◌, ◌≤◌, ◌<◌}
-use lib.ListN.{length}
 use Rattle.bucket.specs.Digits.{bytes_for, bit_at}
-use Rattle.bucket.specs.Packing.{takes}
-use Rattle.bucket.proofs.ReadLaws.{bare_not, bare-here, spare-read, spare-found}
-use Rattle.bucket.proofs.RoomLaws.{Room, takes-room}
-use Rattle.bucket.proofs.TestLaws.{each_more, test_refused, test_granted}
-use native.Mathlib.Omega.{arith}
-use borrow.Author.Rules.{rules}
-use borrow.Author.Tests.{eq-eqb}
-use Rattle.std.proofs.Common.{ap}
-use mathlib.Core.Bool.{not}
 use Rattle.bucket.proofs.packing.spare_is_zero.Given as goal
 
 abbrev pub invariant-loop-j : goal.invariant-loop-j

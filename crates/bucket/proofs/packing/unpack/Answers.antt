@@ -8,7 +8,6 @@ use borrow.Author.Tests.{le-leb, lt-leb}
 use Rattle.bucket.specs.Packing.{takes, unpack_into}
 use Rattle.bucket.proofs.TestLaws.{and_fails, and_holds, cond-kept, cond-made, test_refused, test_granted}
 use native.Mathlib.Omega.{arith}
-use borrow.Author.Rules.{rules}
 use mathlib.Core.Bool.{not}
 use Rattle.bucket.proofs.packing.unpack.Goals as goal
 

@@ -1,15 +1,13 @@
 use mathlib.Core.Path.{ap, ◌∙◌}
 use mathlib.Core.List.{List, map}
-use Prim.Native.Nat.{◌-◌, ◌*◌, ◌≤◌}
+use Prim.Native.Nat.{◌*◌}
 use lib.IntN.{ℤ, pos}
-use lib.ListN.{take}
 use lib.Seq.{take_all}
 use Rattle.bucket.specs.Digits.{bytes_for, unpacked}
 use Rattle.bucket.specs.Lists.{over, part}
 use Rattle.bucket.proofs.NumberLaws.{counts-length, counts-at}
-use Rattle.bucket.proofs.OverLaws.{Laid, laid-start, laid-take}
+use Rattle.bucket.proofs.OverLaws.{laid-start, laid-take}
 use native.Mathlib.Omega.{arith}
-use borrow.Author.Rules.{rules}
 use Rattle.bucket.proofs.packing.unpack_all.Goals as goal
 
 pub loop-i-init : goal.loop-i-init

@@ -1,17 +1,12 @@
 -- `bucket::packing::unpack_all` meets its contract. The invariant: the first i counters lie over the column from the position on. The measure is
 -- what is left of them. Assumes nothing.
-use mathlib.Core.Path.{ap, ◌∙◌}
-use mathlib.Core.List.{List, map}
+use mathlib.Core.List.{map}
 use Prim.Native.Nat.{◌-◌, ◌*◌, ◌≤◌}
-use lib.IntN.{ℤ, pos}
+use lib.IntN.{pos}
 use lib.ListN.{take}
-use lib.Seq.{take_all}
 use Rattle.bucket.specs.Digits.{bytes_for, unpacked}
-use Rattle.bucket.specs.Lists.{over, part}
-use Rattle.bucket.proofs.NumberLaws.{counts-length, counts-at}
-use Rattle.bucket.proofs.OverLaws.{Laid, laid-start, laid-take}
-use native.Mathlib.Omega.{arith}
-use borrow.Author.Rules.{rules}
+use Rattle.bucket.specs.Lists.{part}
+use Rattle.bucket.proofs.OverLaws.{Laid}
 use Rattle.bucket.proofs.packing.unpack_all.Given as goal
 
 abbrev pub invariant-loop-i : goal.invariant-loop-i

@@ -1,13 +1,10 @@
 use mathlib.Core.Path.{refl, sym, ◌∙◌}
-use mathlib.Core.Logic.{⊎_elim}
-use Prim.Native.Nat.{ℕ, ◌-◌, ◌≤◌}
+use Prim.Native.Nat.{ℕ}
 use native.Mathlib.Omega.{arith}
 use borrow.Author.Rules.{rules}
-use borrow.Author.Tests.{not-true, not-false}
-use lib.ListN.{length, take, drop, drop_of_length-le}
-use Rattle.bucket.specs.Places.{firsts}
+use lib.ListN.{drop_of_length-le}
 use Rattle.bucket.proofs.TableLaws.{tabulated-length, tabulated-rest, numbers}
-use Rattle.bucket.proofs.SearchLaws.{Searching, search_full, search_spent, search_skip, search-take}
+use Rattle.bucket.proofs.SearchLaws.{search_full, search_spent, search_skip, search-take}
 use Rattle.bucket.proofs.places.fill.Goals as goal
 use Rattle.bucket.proofs.places.fill.Goals.{then-not-is_taken, else-not-is_taken}
 

@@ -1,14 +1,9 @@
 -- `bucket::places::fill` meets its contract: the loop keeps `Searching`, with the bucket numbers from c on as the candidates left. Assumes nothing.
-use mathlib.Core.Path.{refl, sym, ◌∙◌}
-use mathlib.Core.Logic.{⊎_elim}
-use Prim.Native.Nat.{ℕ, ◌-◌, ◌≤◌}
-use native.Mathlib.Omega.{arith}
-use borrow.Author.Rules.{rules}
-use borrow.Author.Tests.{not-true, not-false}
-use lib.ListN.{length, take, drop, drop_of_length-le}
+use Prim.Native.Nat.{◌-◌, ◌≤◌}
+use lib.ListN.{length, take, drop}
 use Rattle.bucket.specs.Places.{firsts}
-use Rattle.bucket.proofs.TableLaws.{tabulated-length, tabulated-rest, numbers}
-use Rattle.bucket.proofs.SearchLaws.{Searching, search_full, search_spent, search_skip, search-take}
+use Rattle.bucket.proofs.TableLaws.{numbers}
+use Rattle.bucket.proofs.SearchLaws.{Searching}
 use Rattle.bucket.proofs.places.fill.Given as goal
 
 abbrev pub invariant-loop-c : goal.invariant-loop-c

@@ -1,14 +1,11 @@
-use mathlib.Core.Path.{◌≡◌, sym, ap, ◌∙◌}
-use mathlib.Core.Logic.{⊎_elim}
-use mathlib.Core.Bool.{false}
-use Prim.Native.Nat.{◌-◌, ◌≤◌, min}
+use mathlib.Core.Path.{sym, ap, ◌∙◌}
+use Prim.Native.Nat.{min}
 use native.Mathlib.Omega.{arith}
 use borrow.Author.Rules.{rules}
-use lib.ListN.{take}
 use Rattle.bucket.specs.Crc.{next_by}
-use Rattle.bucket.specs.Lists.{pad, elem}
+use Rattle.bucket.specs.Lists.{pad}
 use Rattle.bucket.proofs.ListLaws.{elem-nil, elem-take, elem-take-more}
-use Rattle.bucket.proofs.SearchLaws.{Drawing, drawing_start, drawing_last, drawing_skip, drawing_take, drawing_done}
+use Rattle.bucket.proofs.SearchLaws.{drawing_start, drawing_last, drawing_skip, drawing_take, drawing_done}
 use Rattle.bucket.proofs.PlaceLaws.{places-back}
 use Rattle.bucket.proofs.places.places.Goals as goal
 use Rattle.bucket.proofs.places.places.Goals.{then-j-n+else-n-most, else-j-n+then-taken-j}

@@ -1,17 +1,12 @@
 -- `bucket::places::places` meets its contract. The outer loop keeps `Drawing`: the n places found stand first, zeros behind them, and the candidates
 -- from the i-th on give the rest of the places. The inner loop keeps besides that the draw's bucket is none of the first j. Assumes nothing.
-use mathlib.Core.Path.{◌≡◌, sym, ap, ◌∙◌}
-use mathlib.Core.Logic.{⊎_elim}
+use mathlib.Core.Path.{◌≡◌}
 use mathlib.Core.Bool.{false}
 use Prim.Native.Nat.{◌-◌, ◌≤◌, min}
-use native.Mathlib.Omega.{arith}
-use borrow.Author.Rules.{rules}
 use lib.ListN.{take}
 use Rattle.bucket.specs.Crc.{next_by}
-use Rattle.bucket.specs.Lists.{pad, elem}
-use Rattle.bucket.proofs.ListLaws.{elem-nil, elem-take, elem-take-more}
-use Rattle.bucket.proofs.SearchLaws.{Drawing, drawing_start, drawing_last, drawing_skip, drawing_take, drawing_done}
-use Rattle.bucket.proofs.PlaceLaws.{places-back}
+use Rattle.bucket.specs.Lists.{elem}
+use Rattle.bucket.proofs.SearchLaws.{Drawing}
 use Rattle.bucket.proofs.places.places.Given as goal
 
 abbrev pub invariant-taken : goal.invariant-taken

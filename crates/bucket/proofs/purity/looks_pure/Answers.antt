@@ -4,7 +4,6 @@ use mathlib.Core.Path.{◌≡◌, sym, ap, ◌∙◌}
 use Prim.Native.Nat.{min}
 use mir.Syntax.{w64}
 use mir.ValLaws.{to_z-of_z}
-use borrow.Author.Rules.{rules}
 use Rattle.bucket.specs.Crc.{crc_by, next_by}
 use Rattle.bucket.specs.Bucket.{is_one}
 use Rattle.bucket.proofs.PurityLaws.{pure_place, impure_sum, impure_count}

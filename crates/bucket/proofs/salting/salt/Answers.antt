@@ -1,6 +1,5 @@
 -- `bucket::salting::salt` meets its contract: a salt counts modulo 64. Assumes nothing.
 use mathlib.Core.Path.{◌∙◌}
-use borrow.Author.Rules.{rules}
 use Rattle.bucket.proofs.SaltLaws.{salted-mod}
 use Rattle.bucket.proofs.salting.salt.Goals as goal
 

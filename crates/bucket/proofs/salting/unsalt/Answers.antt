@@ -2,7 +2,6 @@
 use mathlib.Core.Path.{sym, ap, ◌∙◌}
 use Prim.Native.Nat.{ℕ, ◌-◌}
 use native.Mathlib.Omega.{arith}
-use borrow.Author.Rules.{rules}
 use Rattle.bucket.specs.Salt.{rot}
 use Rattle.bucket.proofs.SaltLaws.{rot-all, unsalted-mod}
 use Rattle.bucket.proofs.salting.unsalt.Goals as goal

@@ -1,10 +1,6 @@
 use mathlib.Core.Path.{◌≡◌, sym}
-use mathlib.Core.Bool.{false}
-use Prim.Native.Nat.{◌-◌, ◌≤◌}
 use native.Mathlib.Omega.{arith}
 use borrow.Author.Rules.{rules}
-use lib.ListN.{take}
-use Rattle.bucket.specs.Lists.{elem}
 use Rattle.bucket.proofs.ListLaws.{elem-nil, elem-take, elem-take-more}
 use Rattle.bucket.proofs.taken.is_taken.Goals as goal
 

@@ -1,12 +1,9 @@
 -- `bucket::taken::is_taken` meets its contract. The loop keeps: c is none of the first j. Assumes nothing.
-use mathlib.Core.Path.{◌≡◌, sym}
+use mathlib.Core.Path.{◌≡◌}
 use mathlib.Core.Bool.{false}
 use Prim.Native.Nat.{◌-◌, ◌≤◌}
-use native.Mathlib.Omega.{arith}
-use borrow.Author.Rules.{rules}
 use lib.ListN.{take}
 use Rattle.bucket.specs.Lists.{elem}
-use Rattle.bucket.proofs.ListLaws.{elem-nil, elem-take, elem-take-more}
 use Rattle.bucket.proofs.taken.is_taken.Given as goal
 
 abbrev pub invariant-loop-j : goal.invariant-loop-j

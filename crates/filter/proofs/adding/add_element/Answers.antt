@@ -2,7 +2,6 @@
 -- Assumes nothing.
 use Prim.Native.Nat.{◌+◌, ◌*◌, ◌^◌, ◌≤◌}
 use native.Mathlib.Omega.{arith}
-use borrow.Author.Rules.{rules}
 use Rattle.bucket.specs.Columns.{columns}
 use Rattle.bucket.specs.Counts.{stratum_of}
 use Rattle.filter.proofs.GatherLaws.{crc_given}

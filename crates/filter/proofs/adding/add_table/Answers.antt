@@ -1,7 +1,5 @@
 use mathlib.Core.Path.{◌≡◌, refl, sym, ◌∙◌}
-use Prim.Native.Nat.{◌-◌}
 use native.Mathlib.Omega.{arith}
-use borrow.Author.Rules.{rules}
 use lib.ListN.{length}
 use Rattle.bucket.specs.Columns.{columns}
 use Rattle.bucket.specs.Crc.{crc_of}
@@ -9,7 +7,7 @@ use Rattle.filter.specs.Table.{first_eight, ids_of}
 use Rattle.filter.specs.Steps.{layered}
 use Rattle.filter.proofs.SpreadLaws.{sound_any}
 use Rattle.filter.proofs.TableLaws.{hashes-length, ids-length}
-use Rattle.filter.proofs.GatherLaws.{Gathered, gathered-start, gathered-wide, gathered-small, gathered_next, gathered-end}
+use Rattle.filter.proofs.GatherLaws.{gathered-start, gathered-wide, gathered-small, gathered_next, gathered-end}
 use Rattle.filter.proofs.adding.add_table.Goals as goal
 use Rattle.filter.proofs.adding.add_table.Goals.{After-count-n}
 

@@ -2,18 +2,11 @@
 -- there, and the counts stay far below 2^60.
 -- The invariant: the columns and the filter of the elements still to come are together the columns at the start and the filter of the table.
 -- Assumes nothing.
-use mathlib.Core.Path.{◌≡◌, refl, sym, ◌∙◌}
 use Prim.Native.Nat.{◌-◌}
-use native.Mathlib.Omega.{arith}
-use borrow.Author.Rules.{rules}
-use lib.ListN.{length}
 use Rattle.bucket.specs.Columns.{columns}
-use Rattle.bucket.specs.Crc.{crc_of}
 use Rattle.filter.specs.Table.{first_eight, ids_of}
 use Rattle.filter.specs.Steps.{layered}
-use Rattle.filter.proofs.SpreadLaws.{sound_any}
-use Rattle.filter.proofs.TableLaws.{hashes-length, ids-length}
-use Rattle.filter.proofs.GatherLaws.{Gathered, gathered-start, gathered-wide, gathered-small, gathered_next, gathered-end}
+use Rattle.filter.proofs.GatherLaws.{Gathered}
 use Rattle.filter.proofs.adding.add_table.Given as goal
 
 abbrev pub invariant-loop-e : goal.invariant-loop-e

@@ -1,13 +1,11 @@
 use mathlib.Core.Path.{◌≡◌}
-use Prim.Native.Nat.{◌-◌}
 use native.Mathlib.Omega.{arith}
-use borrow.Author.Rules.{rules}
 use lib.IntN.{pos}
 use Rattle.bucket.specs.Bucket.{bucket}
 use Rattle.bucket.specs.Columns.{columns}
 use Rattle.bucket.specs.Lists.{pad}
 use Rattle.bucket.specs.Places.{places}
-use Rattle.filter.proofs.SpreadLaws.{Added, added_start, added_open, added_next, added_end, places-given}
+use Rattle.filter.proofs.SpreadLaws.{added_start, added_open, added_next, added_end, places-given}
 use Rattle.filter.proofs.adding.add_to_places.Goals as goal
 use Rattle.filter.proofs.adding.add_to_places.Goals.{After-places-p}
 

@@ -1,16 +1,11 @@
 -- `adding::add_to_places` meets its contract: the places are distinct and below the size, so each is added to once, and a count below 2^60 stays exact.
 -- The invariant: the element spread over the places still to come, on the columns as they are, is the element spread over all places on the columns as they were.
 -- Assumes nothing.
-use mathlib.Core.Path.{◌≡◌}
 use Prim.Native.Nat.{◌-◌}
-use native.Mathlib.Omega.{arith}
-use borrow.Author.Rules.{rules}
 use lib.IntN.{pos}
 use Rattle.bucket.specs.Bucket.{bucket}
 use Rattle.bucket.specs.Columns.{columns}
-use Rattle.bucket.specs.Lists.{pad}
-use Rattle.bucket.specs.Places.{places}
-use Rattle.filter.proofs.SpreadLaws.{Added, added_start, added_open, added_next, added_end, places-given}
+use Rattle.filter.proofs.SpreadLaws.{Added}
 use Rattle.filter.proofs.adding.add_to_places.Given as goal
 
 abbrev pub invariant-loop-j : goal.invariant-loop-j

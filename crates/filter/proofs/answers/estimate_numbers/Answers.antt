@@ -1,7 +1,6 @@
 -- `answers::estimate_numbers` meets its contract: each case's numbers are the definition's. Assumes nothing.
 use mathlib.Core.Path.{sym, ap, ◌∙◌}
 use Rattle.filter.specs.Answers.{estimate_answer}
-use borrow.Author.Rules.{rules}
 use Rattle.filter.proofs.answers.estimate_numbers.Goals as goal
 
 pub returns-in-Made : goal.returns-in-Made

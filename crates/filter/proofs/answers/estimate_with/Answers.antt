@@ -2,7 +2,6 @@
 use mathlib.Core.Path.{ap}
 use Prim.Native.Nat.{ℕ}
 use Rattle.filter.specs.Answers.{estimate}
-use borrow.Author.Rules.{rules}
 use Rattle.filter.proofs.answers.estimate_with.Goals as goal
 
 pub returns : goal.returns

@@ -1,7 +1,6 @@
 -- `answers::made_numbers` meets its contract: each case's numbers are the definition's. Assumes nothing.
 use mathlib.Core.Path.{sym, ap, ◌∙◌}
 use Rattle.filter.specs.Answers.{made_answer}
-use borrow.Author.Rules.{rules}
 use Rattle.filter.proofs.answers.made_numbers.Goals as goal
 
 pub returns-in_default : goal.returns-in_default

@@ -1,7 +1,6 @@
 -- `answers::numbers` meets its contract: each case's numbers are the definition's. Assumes nothing.
 use mathlib.Core.Path.{sym, ap, ◌∙◌}
 use Rattle.filter.specs.Answers.{answer_of}
-use borrow.Author.Rules.{rules}
 use Rattle.filter.proofs.answers.numbers.Goals as goal
 
 pub returns-in-Complete : goal.returns-in-Complete

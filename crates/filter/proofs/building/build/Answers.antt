@@ -6,7 +6,6 @@ use Rattle.bucket.specs.Columns.{columns}
 use Rattle.bucket.proofs.TestLaws.{test_refused, test_granted}
 use Rattle.filter.specs.Table.{first_eight, is_table}
 use Rattle.filter.specs.Calls.{in_range, has_room, built, build_refusal, build_call}
-use borrow.Author.Rules.{rules}
 use mathlib.Core.Bool.{not}
 use Rattle.filter.proofs.building.build.Goals as goal
 use Rattle.filter.proofs.building.build.Goals.{Else-not-roomy}

@@ -12,7 +12,6 @@ use Rattle.filter.proofs.FilledLaws.{wide_of, wide-filled}
 use Rattle.filter.proofs.PartLaws.{range-sound, small-cleared, built-after}
 use Rattle.filter.proofs.TableLaws.{table-count}
 use Rattle.filter.proofs.LayerLaws.{one-wide, one-small, added_filter}
-use borrow.Author.Rules.{rules}
 use Rattle.filter.proofs.building.fill.Goals as goal
 use Rattle.filter.proofs.building.fill.Goals.{Start}
 

@@ -1,15 +1,10 @@
 -- `clearing::clear_columns` meets its contract: the three stores place the zero bucket, and the invariant is that the first i buckets are filled with it.
 -- Assumes nothing.
-use mathlib.Core.Path.{◌≡◌, ap, ◌∙◌}
-use Prim.Native.Nat.{ℕ, ◌-◌, ◌≤◌}
-use native.Mathlib.Omega.{arith}
-use borrow.Author.Rules.{rules}
+use mathlib.Core.Path.{◌≡◌}
+use Prim.Native.Nat.{◌-◌, ◌≤◌}
 use Rattle.bucket.specs.Bucket.{𝟎}
-use Rattle.bucket.specs.Columns.{Columns, columns, place}
-use Rattle.bucket.proofs.ColumnLaws.{SameLengths}
+use Rattle.bucket.specs.Columns.{columns}
 use Rattle.filter.specs.Calls.{filled}
-use Rattle.filter.specs.Steps.{Wide}
-use Rattle.filter.proofs.FilledLaws.{filled_none, filled_next, filled_is_lengths, wide-same}
 use Rattle.filter.proofs.clearing.clear_columns.Given as goal
 
 abbrev pub invariant-loop-i : goal.invariant-loop-i

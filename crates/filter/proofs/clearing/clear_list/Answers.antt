@@ -1,11 +1,10 @@
 use mathlib.Core.Path.{◌≡◌, sym, ap, ◌∙◌}
-use Prim.Native.Nat.{ℕ, ◌+◌, ◌-◌, ◌≤◌}
+use Prim.Native.Nat.{ℕ, ◌+◌}
 use native.Mathlib.Nat.{sub-zero}
 use native.Mathlib.Omega.{arith}
-use borrow.Author.Rules.{rules}
 use lib.ListN.{replicate, length-replicate, replicate-append-replicate}
 use Rattle.bucket.specs.Lists.{over, pad}
-use Rattle.bucket.proofs.OverLaws.{Laid, laid-start, laid_next}
+use Rattle.bucket.proofs.OverLaws.{laid-start, laid_next}
 use Rattle.filter.specs.Calls.{listed_into}
 use Rattle.filter.proofs.clearing.clear_list.Goals as goal
 

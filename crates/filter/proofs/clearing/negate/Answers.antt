@@ -1,7 +1,5 @@
-use Prim.Native.Nat.{◌-◌}
 use native.Mathlib.Omega.{arith}
-use borrow.Author.Rules.{rules}
-use Rattle.filter.proofs.NegatedLaws.{Turned, turned-start, turned-length, turned-end, turned-fits-next, turned-next}
+use Rattle.filter.proofs.NegatedLaws.{turned-start, turned-length, turned-end, turned-fits-next, turned-next}
 use Rattle.filter.proofs.clearing.negate.Goals as goal
 
 pub loop-i-init : goal.loop-i-init

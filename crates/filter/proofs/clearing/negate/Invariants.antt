@@ -1,9 +1,7 @@
 -- `clearing::negate` meets its contract: a count below 2^61 has an opposite of 64 bits, and the invariant is that the first i signs are turned.
 -- Assumes nothing.
 use Prim.Native.Nat.{◌-◌}
-use native.Mathlib.Omega.{arith}
-use borrow.Author.Rules.{rules}
-use Rattle.filter.proofs.NegatedLaws.{Turned, turned-start, turned-length, turned-end, turned-fits-next, turned-next}
+use Rattle.filter.proofs.NegatedLaws.{Turned}
 use Rattle.filter.proofs.clearing.negate.Given as goal
 
 abbrev pub invariant-loop-i : goal.invariant-loop-i

@@ -1,7 +1,6 @@
 -- `estimator::are_counts` meets its contract: it is two tests. Assumes nothing.
 use mathlib.Core.Path.{ap₂}
 use mathlib.Core.Bool.{◌&&◌}
-use borrow.Author.Rules.{rules}
 use Rattle.filter.proofs.estimator.are_counts.Goals as goal
 
 pub returns : goal.returns

@@ -7,7 +7,6 @@ use Rattle.bucket.proofs.TestLaws.{test_refused, test_granted}
 use Rattle.filter.specs.Table.{first_eight, is_table}
 use Rattle.filter.specs.Calls.{has_room, built}
 use Rattle.filter.specs.Estimator.{estimator_refusal, estimator_call}
-use borrow.Author.Rules.{rules}
 use mathlib.Core.Bool.{not}
 use Rattle.filter.proofs.estimator.build.Goals as goal
 use Rattle.filter.proofs.estimator.build.Goals.{Else-not-roomy}

@@ -8,7 +8,6 @@ use Rattle.bucket.proofs.TestLaws.{test_refused, test_granted}
 use Rattle.filter.specs.Calls.{are_counts, has_room}
 use Rattle.filter.specs.Estimator.{estimate_refusal, estimate_call}
 use Rattle.filter.proofs.EstimateLaws.{estimate_ready, less-wide, less-small, estimate-ends}
-use borrow.Author.Rules.{rules}
 use Rattle.std.proofs.Common.{ap}
 use mathlib.Core.Bool.{not}
 use Rattle.filter.proofs.estimator.estimate.Goals as goal

@@ -12,7 +12,6 @@ use Rattle.filter.proofs.FilledLaws.{wide_of, wide-filled}
 use Rattle.filter.proofs.PartLaws.{small-cleared, built-after}
 use Rattle.filter.proofs.TableLaws.{table-count}
 use Rattle.filter.proofs.LayerLaws.{added_estimator}
-use borrow.Author.Rules.{rules}
 use Rattle.filter.proofs.estimator.fill.Goals as goal
 
 pub clear_columns-requires : goal.clear_columns-requires

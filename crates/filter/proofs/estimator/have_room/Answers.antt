@@ -1,7 +1,6 @@
 -- `estimator::have_room` meets its contract: it is two tests. Assumes nothing.
 use mathlib.Core.Path.{ap₂}
 use mathlib.Core.Bool.{◌&&◌}
-use borrow.Author.Rules.{rules}
 use Rattle.filter.proofs.estimator.have_room.Goals as goal
 
 pub returns : goal.returns

@@ -2,10 +2,7 @@
 -- is said. Assumes nothing.
 use mathlib.Core.Path.{◌≡◌}
 use Prim.Native.Nat.{◌-◌, ◌≤◌}
-use native.Mathlib.Omega.{arith}
 use lib.ListN.{length}
-use Rattle.filter.proofs.TableLaws.{hashes-length, table-count}
-use borrow.Author.Rules.{rules}
 use Rattle.filter.proofs.finding.fill.Given as goal
 
 abbrev pub invariant-loop-e : goal.invariant-loop-e

@@ -6,7 +6,6 @@ use lib.Dec.{eqb}
 use Rattle.filter.specs.Table.{first_eight, ids_of}
 use Rattle.filter.proofs.BisectLaws.{holds_between}
 use Rattle.filter.proofs.TableLaws.{ids-ascending}
-use borrow.Author.Rules.{rules}
 use Rattle.filter.proofs.finding.is_held.Goals as goal
 
 pub returns-then-id-next : goal.returns-then-id-next

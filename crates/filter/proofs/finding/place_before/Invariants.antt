@@ -1,6 +1,5 @@
 -- `finding::place_before` is safe and ends: it goes up to four places on from a number of 16 bits. Assumes nothing.
 use Prim.Native.Nat.{◌-◌, ◌≤◌}
-use borrow.Author.Rules.{rules}
 use Rattle.filter.proofs.finding.place_before.Given as goal
 
 abbrev pub invariant-loop-p : goal.invariant-loop-p

@@ -1,13 +1,11 @@
 use mathlib.Core.Path.{ap, ◌∙◌}
-use Prim.Native.Nat.{◌-◌}
 use native.Mathlib.Omega.{arith}
-use borrow.Author.Rules.{rules}
 use lib.IntN.{pos}
 use lib.ListN.{get_or}
 use mir.Syntax.{w64}
 use mir.ValLaws.{to_z-of_z}
 use Rattle.filter.specs.Calls.{is_count}
-use Rattle.filter.proofs.FormLaws.{Tested, tested_start, tested_next, tested_end}
+use Rattle.filter.proofs.FormLaws.{tested_start, tested_next, tested_end}
 use Rattle.filter.proofs.forms.are_counts.Goals as goal
 
 pub loop-i-init : goal.loop-i-init

@@ -1,11 +1,8 @@
 use mathlib.Core.Path.{◌∙◌, sym}
-use Prim.Native.Nat.{◌-◌}
 use native.Mathlib.Omega.{arith}
-use borrow.Author.Rules.{rules}
-use Rattle.filter.specs.Table.{first_eight, ids_of}
 use lib.ListN.{get_or}
 use Rattle.filter.proofs.TableLaws.{held-id}
-use Rattle.filter.proofs.JudgeLaws.{agree_same, agree_other, Agreed, agreed_start, agreed_next, agreed_not, agreed_end}
+use Rattle.filter.proofs.JudgeLaws.{agree_same, agree_other, agreed_start, agreed_next, agreed_not, agreed_end}
 use Rattle.filter.proofs.judging.all_held.Goals as goal
 
 pub loop-i-init : goal.loop-i-init

@@ -1,13 +1,8 @@
 -- `judging::all_held` meets its contract: the IDs before i have been found as wanted, and in a table an ID is found exactly where it is.
 -- Assumes nothing.
-use mathlib.Core.Path.{◌∙◌, sym}
 use Prim.Native.Nat.{◌-◌}
-use native.Mathlib.Omega.{arith}
-use borrow.Author.Rules.{rules}
 use Rattle.filter.specs.Table.{first_eight, ids_of}
-use lib.ListN.{get_or}
-use Rattle.filter.proofs.TableLaws.{held-id}
-use Rattle.filter.proofs.JudgeLaws.{agree_same, agree_other, Agreed, agreed_start, agreed_next, agreed_not, agreed_end}
+use Rattle.filter.proofs.JudgeLaws.{Agreed}
 use Rattle.filter.proofs.judging.all_held.Given as goal
 
 abbrev pub invariant-loop-i : goal.invariant-loop-i

@@ -1,5 +1,4 @@
 -- `judging::judge` meets its contract: each early answer is the definition's at the test that failed. Assumes nothing.
-use borrow.Author.Rules.{rules}
 use Rattle.bucket.proofs.TestLaws.{test_refused, test_granted}
 use Rattle.filter.proofs.JudgeLaws.{not_fine, is_fine_lem}
 use Rattle.std.proofs.Common.{ap}

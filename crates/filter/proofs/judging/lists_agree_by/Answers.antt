@@ -1,5 +1,4 @@
 -- `judging::lists_agree_by` meets its contract: one list and then the other. Assumes nothing.
-use borrow.Author.Rules.{rules}
 use Rattle.bucket.proofs.TestLaws.{test_refused, test_granted}
 use Rattle.std.proofs.Common.{ap}
 use mathlib.Core.Bool.{not}

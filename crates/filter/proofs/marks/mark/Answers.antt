@@ -1,7 +1,6 @@
 -- `filter::marks::mark` meets its contract: the one word that holds b gets b's bit, and the top word says again whether that word is zero.
 -- Assumes nothing.
 use native.Mathlib.Omega.{arith}
-use borrow.Author.Rules.{rules}
 use Rattle.filter.proofs.MarkLaws.{marks-but}
 use Rattle.filter.proofs.marks.mark.Goals as goal
 

@@ -3,7 +3,6 @@
 use mathlib.Core.Path.{sym, ap, ◌∙◌}
 use mathlib.Core.Bool.{not}
 use native.Mathlib.Omega.{arith}
-use borrow.Author.Rules.{rules}
 use Rattle.filter.proofs.BitLaws.{lit-kept, lit-turned, lit_yes, lit_no}
 use Rattle.filter.proofs.marks.with_bit.Goals as goal
 

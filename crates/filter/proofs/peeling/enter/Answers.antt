@@ -1,7 +1,6 @@
 -- The sign of the count says the side: the ID goes behind those of that side, and that side's length grows by one. Assumes nothing.
 use native.Mathlib.Omega.{arith}
 use Rattle.filter.proofs.ListedLaws.{listed-ours, listed-theirs}
-use borrow.Author.Rules.{rules}
 use Rattle.filter.proofs.peeling.enter.Goals as goal
 
 pub returns-then-s-eq1 : goal.returns-then-s-eq1

@@ -1,41 +1,19 @@
 use mathlib.Core.Path.{◌≡◌, refl}
-use Prim.Native.Nat.{◌+◌, ◌-◌, ◌<◌}
+use Prim.Native.Nat.{◌+◌, ◌<◌}
 use native.Mathlib.Omega.{arith}
 use lib.IntN.{pos}
 use lib.ListN.{length, get_or}
 use mir.Syntax.{w64}
 use mir.Val.{to_z, of_z}
 use mir.ValLaws.{to_z-of_z}
-use borrow.Author.Rules.{rules, sfits_of}
+use borrow.Author.Rules.{sfits_of}
 use Rattle.bucket.specs.Columns.{columns}
 use Rattle.bucket.proofs.ColumnLaws.{SameLengths}
 use Rattle.filter.specs.Marks.{Least}
 use Rattle.filter.specs.Steps.{Wide}
 use Rattle.filter.proofs.MarkLaws.{marks-none}
 use Rattle.filter.proofs.SpreadLaws.{sound_any}
-use Rattle.filter.proofs.StepLaws.{
-  Input,
-  State,
-  pure_in,
-  Peeling,
-  Found,
-  peeling_start,
-  peeling_lengths,
-  peeling_wide,
-  peeling_small,
-  peeling_count,
-  peeling_looked,
-  peeling_ours,
-  peeling_theirs,
-  peeling_done,
-  least_in,
-  found-one,
-  found_abs,
-  peeling_repeated,
-  peeling_full,
-  peeling_next,
-  bucket-read,
-}
+use Rattle.filter.proofs.StepLaws.{Input, State, pure_in, Found, peeling_start, peeling_lengths, peeling_wide, peeling_small, peeling_count, peeling_looked, peeling_ours, peeling_theirs, peeling_done, least_in, found-one, found_abs, peeling_repeated, peeling_full, peeling_next, bucket-read}
 use Rattle.filter.proofs.peeling.peel.Goals as goal
 use Rattle.filter.proofs.peeling.peel.Goals.{After-least-b, After-unsalt-id, At-loop-top}
 

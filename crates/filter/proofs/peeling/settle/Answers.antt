@@ -11,7 +11,7 @@ use Rattle.filter.specs.Steps.{shows}
 use Rattle.filter.proofs.ShowLaws.{pure_read, impure_read, shows-place}
 use Rattle.filter.proofs.SpreadLaws.{abs_small}
 use Rattle.filter.proofs.TakingLaws.{taking_open}
-use borrow.Author.Rules.{rules, sfits_of}
+use borrow.Author.Rules.{sfits_of}
 use Rattle.filter.proofs.peeling.settle.Goals as goal
 use Rattle.filter.proofs.peeling.settle.Goals.{After-put_at, Start}
 

@@ -1,8 +1,7 @@
 use mathlib.Core.Path.{◌≡◌, sym, subst}
-use mathlib.Core.Logic.{⊎_elim}
-use Prim.Native.Nat.{ℕ, ◌-◌, ◌≤◌}
+use Prim.Native.Nat.{ℕ}
 use native.Mathlib.Omega.{arith}
-use borrow.Author.Rules.{rules, sfits_of}
+use borrow.Author.Rules.{sfits_of}
 use Rattle.bucket.specs.Columns.{columns, view}
 use Rattle.filter.specs.Filter.{rule}
 use Rattle.filter.specs.Marks.{Marks}

@@ -1,13 +1,9 @@
 -- The buckets are tested one after the other: after b of them the set holds those below b that look pure. Assumes nothing.
-use mathlib.Core.Path.{◌≡◌, sym, subst}
-use mathlib.Core.Logic.{⊎_elim}
-use Prim.Native.Nat.{ℕ, ◌-◌, ◌≤◌}
-use native.Mathlib.Omega.{arith}
-use borrow.Author.Rules.{rules, sfits_of}
+use Prim.Native.Nat.{◌-◌, ◌≤◌}
 use Rattle.bucket.specs.Columns.{columns, view}
 use Rattle.filter.specs.Filter.{rule}
 use Rattle.filter.specs.Marks.{Marks}
-use Rattle.filter.proofs.ShowLaws.{pure_read, impure_read, shows_below, shows-start, shows_on, shows_no}
+use Rattle.filter.proofs.ShowLaws.{shows_below}
 use Rattle.filter.proofs.peeling.survey.Given as goal
 
 abbrev pub invariant-loop-b : goal.invariant-loop-b

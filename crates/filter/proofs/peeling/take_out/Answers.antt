@@ -1,17 +1,15 @@
 use mathlib.Core.Path.{◌≡◌, subst}
-use Prim.Native.Nat.{◌-◌}
 use native.Mathlib.Omega.{arith}
 use lib.IntN.{ℤ}
 use mir.Syntax.{w64}
 use mir.Val.{to_z, of_z}
 use mir.ValLaws.{to_z-of_z}
-use borrow.Author.Rules.{rules}
 use Rattle.bucket.specs.Bucket.{bucket, neg}
 use Rattle.bucket.specs.Columns.{Columns, columns, view}
 use Rattle.bucket.specs.Places.{places}
 use Rattle.filter.specs.Calls.{filled}
 use Rattle.filter.specs.Steps.{spread}
-use Rattle.filter.proofs.TakingLaws.{Taking, taking_start, taking_wide, taking_small, taking-below, taking-next, taking_end}
+use Rattle.filter.proofs.TakingLaws.{taking_start, taking_wide, taking_small, taking-below, taking-next, taking_end}
 use Rattle.filter.proofs.peeling.take_out.Goals as goal
 
 pub loop-j-init : goal.loop-j-init

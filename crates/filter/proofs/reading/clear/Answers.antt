@@ -4,7 +4,6 @@ use Rattle.bucket.specs.Columns.{columns}
 use Rattle.bucket.proofs.TestLaws.{test_refused, test_granted}
 use Rattle.filter.specs.Calls.{unread, clear_call}
 use Rattle.filter.proofs.CallLaws.{clear_ready}
-use borrow.Author.Rules.{rules}
 use Rattle.std.proofs.Common.{ap}
 use mathlib.Core.Bool.{not}
 use Rattle.filter.proofs.reading.clear.Goals as goal

@@ -1,7 +1,6 @@
 -- `reading::has_all_room` meets its contract: it is two tests. Assumes nothing.
 use mathlib.Core.Path.{ap₂}
 use mathlib.Core.Bool.{◌&&◌}
-use borrow.Author.Rules.{rules}
 use Rattle.filter.proofs.reading.has_all_room.Goals as goal
 
 pub returns : goal.returns

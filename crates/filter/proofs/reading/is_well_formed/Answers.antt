@@ -1,7 +1,6 @@
 -- `reading::is_well_formed` meets its contract: it is two tests. Assumes nothing.
 use mathlib.Core.Path.{ap₂}
 use mathlib.Core.Bool.{◌&&◌}
-use borrow.Author.Rules.{rules}
 use Rattle.filter.proofs.reading.is_well_formed.Goals as goal
 
 pub returns : goal.returns

@@ -16,7 +16,6 @@ use Rattle.filter.proofs.PartLaws.{range-sound, small-difference}
 use Rattle.filter.proofs.RepeatLaws.{trees-start}
 use Rattle.filter.proofs.TableLaws.{table-count, ids-length}
 use Rattle.filter.proofs.CallLaws.{listed-length, peels_call, looked_call}
-use borrow.Author.Rules.{rules}
 use Rattle.filter.proofs.reading.peel_difference.Goals as goal
 use Rattle.filter.proofs.reading.peel_difference.Goals.{Start}
 

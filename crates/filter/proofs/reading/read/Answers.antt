@@ -5,7 +5,6 @@ use Rattle.bucket.specs.Columns.{columns}
 use Rattle.bucket.proofs.TestLaws.{test_refused, test_granted}
 use Rattle.filter.specs.Calls.{read_refusal, read_call}
 use Rattle.filter.proofs.CallLaws.{Granted, read-ends, read_ready}
-use borrow.Author.Rules.{rules}
 use Rattle.std.proofs.Common.{ap}
 use mathlib.Core.Bool.{not}
 use Rattle.filter.proofs.reading.read.Goals as goal

@@ -1,7 +1,6 @@
 -- `reading::read_difference` meets its contract: the peeling is the definition's, so the verdict is, and each verdict leaves what the definition
 -- says. Assumes nothing.
 use Rattle.filter.proofs.CallLaws.{judge_ready, clear-again, read-complete, read-stuck, read_false_lem}
-use borrow.Author.Rules.{rules}
 use Rattle.filter.proofs.reading.read_difference.Goals as goal
 
 pub judge-v-requires : goal.judge-v-requires

@@ -14,7 +14,6 @@ use Rattle.filter.proofs.NegatedLaws.{negated-filled, negated-small}
 use Rattle.filter.proofs.SpreadLaws.{small-more}
 use Rattle.filter.proofs.PartLaws.{range-sound, subtracted-after}
 use Rattle.filter.proofs.TableLaws.{table-count}
-use borrow.Author.Rules.{rules}
 use Rattle.filter.proofs.LayerLaws.{one-wide, one-small, added_filter}
 use Rattle.filter.proofs.reading.subtract.Goals as goal
 

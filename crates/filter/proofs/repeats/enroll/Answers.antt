@@ -1,7 +1,5 @@
 -- `filter::repeats::enroll` meets its contract: a new number is noted at the empty place where the search for it ends. Assumes nothing.
-use mathlib.Core.Logic.{⊎_elim}
 use native.Mathlib.Omega.{arith}
-use borrow.Author.Rules.{rules}
 use Rattle.filter.proofs.RepeatLaws.{enrolled_noted, enrolled_head, link, enrolled-link}
 use Rattle.filter.proofs.repeats.enroll.Goals as goal
 use Rattle.filter.proofs.repeats.enroll.Goals.{in-Head, in-Link}

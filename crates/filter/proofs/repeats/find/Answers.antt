@@ -1,8 +1,7 @@
-use Prim.Native.Nat.{◌+◌, ◌*◌, ◌-◌, ◌%◌}
+use Prim.Native.Nat.{◌+◌, ◌*◌, ◌%◌}
 use native.Mathlib.Omega.{arith}
-use borrow.Author.Rules.{rules}
 use Rattle.filter.specs.Repeats.{Placed}
-use Rattle.filter.proofs.RepeatLaws.{upto-some, Search, search-none, search-start, search_on, search-end}
+use Rattle.filter.proofs.RepeatLaws.{upto-some, search-none, search-start, search_on, search-end}
 use Rattle.filter.proofs.repeats.find.Goals as goal
 
 pub returns-then-p-eq0 : goal.returns-then-p-eq0

@@ -1,10 +1,7 @@
 -- `filter::repeats::find` meets its contract. The invariant: bits of v led to number k, and if v was noted the bits to come lead on to it.
 -- Links name later numbers, so what is left of the numbers is the measure. Assumes nothing.
-use Prim.Native.Nat.{◌+◌, ◌*◌, ◌-◌, ◌%◌}
-use native.Mathlib.Omega.{arith}
-use borrow.Author.Rules.{rules}
-use Rattle.filter.specs.Repeats.{Placed}
-use Rattle.filter.proofs.RepeatLaws.{upto-some, Search, search-none, search-start, search_on, search-end}
+use Prim.Native.Nat.{◌-◌}
+use Rattle.filter.proofs.RepeatLaws.{Search}
 use Rattle.filter.proofs.repeats.find.Given as goal
 
 abbrev pub invariant-loop-k : goal.invariant-loop-k

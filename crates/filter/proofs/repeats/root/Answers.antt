@@ -1,7 +1,6 @@
 -- `filter::repeats::root` meets its contract: the three tests are what makes a head live. Assumes nothing.
 use Prim.Native.Nat.{◌%◌}
 use native.Mathlib.Omega.{arith}
-use borrow.Author.Rules.{rules}
 use Rattle.filter.proofs.repeats.root.Goals as goal
 
 pub overflow_cast-p : goal.overflow_cast-p

@@ -1,10 +1,9 @@
 use Prim.Native.Nat.{◌-◌}
 use native.Mathlib.Omega.{arith}
 use mathlib.Core.Path.{refl, sym, ◌∙◌}
-use borrow.Author.Rules.{rules}
 use Rattle.bucket.specs.Columns.{columns}
 use Rattle.filter.proofs.RepeatLaws.{trees-start}
-use Rattle.filter.proofs.TallyLaws.{lists-few, Tally, tally_start, tally_next, tally_stop, tally_end}
+use Rattle.filter.proofs.TallyLaws.{lists-few, tally_start, tally_next, tally_stop, tally_end}
 use Rattle.filter.proofs.strata.read_all.Goals as goal
 
 pub loop-n-init : goal.loop-n-init

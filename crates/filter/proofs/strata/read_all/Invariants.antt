@@ -1,12 +1,7 @@
 -- `strata::read_all` meets its contract. The loop's invariant: what the strata from n upwards list is counted in the total, and counting and
 -- reading on from the columns as they are now gives the definition's estimate and what the definition leaves. The measure is n. Assumes nothing.
-use Prim.Native.Nat.{◌-◌}
-use native.Mathlib.Omega.{arith}
-use mathlib.Core.Path.{refl, sym, ◌∙◌}
-use borrow.Author.Rules.{rules}
 use Rattle.bucket.specs.Columns.{columns}
-use Rattle.filter.proofs.RepeatLaws.{trees-start}
-use Rattle.filter.proofs.TallyLaws.{lists-few, Tally, tally_start, tally_next, tally_stop, tally_end}
+use Rattle.filter.proofs.TallyLaws.{Tally}
 use Rattle.filter.proofs.strata.read_all.Given as goal
 
 abbrev pub invariant-loop-n : goal.invariant-loop-n

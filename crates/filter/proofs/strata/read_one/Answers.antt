@@ -3,7 +3,6 @@
 use mathlib.Core.Path.{◌∙◌}
 use Prim.Native.Nat.{◌+◌, ◌*◌, ◌^◌}
 use native.Mathlib.Omega.{arith}
-use borrow.Author.Rules.{rules}
 use Rattle.bucket.specs.Columns.{columns}
 use Rattle.filter.proofs.LentLaws.{stratum-wide, stratum-small, stratum-counted, stratum-left}
 use Rattle.filter.proofs.strata.read_one.Goals as goal

@@ -1,7 +1,6 @@
 -- `strata::read_part` meets its contract: the peeling is the definition's, so the stratum is false where it was not in order, and is then
 -- made zero; otherwise it is complete where all is zero, and as many IDs are listed as both lists hold. Assumes nothing.
 use native.Mathlib.Omega.{arith}
-use borrow.Author.Rules.{rules}
 use Rattle.bucket.specs.Columns.{Columns, columns, view}
 use Rattle.filter.specs.Peeling.{Outcome, reading}
 use Rattle.filter.specs.Estimator.{stratum_rule}

@@ -1,18 +1,7 @@
-use Prim.Native.Nat.{◌-◌}
 use native.Mathlib.Omega.{arith}
-use borrow.Author.Rules.{rules}
 use Rattle.bucket.specs.Columns.{Columns, columns}
 use Rattle.filter.specs.Steps.{Wide}
-use Rattle.filter.proofs.EstimateLaws.{
-  Subtracting,
-  subtracting_start,
-  subtracting_lengths,
-  subtracting_wide,
-  count-less-fits,
-  small-here,
-  subtracting_next,
-  subtracting_end,
-}
+use Rattle.filter.proofs.EstimateLaws.{subtracting_start, subtracting_lengths, subtracting_wide, count-less-fits, small-here, subtracting_next, subtracting_end}
 use Rattle.filter.proofs.strata.subtract.Goals as goal
 use Rattle.filter.proofs.strata.subtract.Goals.{At-loop-i}
 

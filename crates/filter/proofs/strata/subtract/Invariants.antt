@@ -1,20 +1,8 @@
 -- `strata::subtract` meets its contract: the XOR sums and the difference of two counts below 2^33 are the difference of two buckets, and the
 -- invariant is that the first i buckets are filled with it. Assumes nothing.
 use Prim.Native.Nat.{◌-◌}
-use native.Mathlib.Omega.{arith}
-use borrow.Author.Rules.{rules}
-use Rattle.bucket.specs.Columns.{Columns, columns}
-use Rattle.filter.specs.Steps.{Wide}
-use Rattle.filter.proofs.EstimateLaws.{
-  Subtracting,
-  subtracting_start,
-  subtracting_lengths,
-  subtracting_wide,
-  count-less-fits,
-  small-here,
-  subtracting_next,
-  subtracting_end,
-}
+use Rattle.bucket.specs.Columns.{columns}
+use Rattle.filter.proofs.EstimateLaws.{Subtracting}
 use Rattle.filter.proofs.strata.subtract.Given as goal
 
 abbrev pub invariant-loop-i : goal.invariant-loop-i

@@ -1,7 +1,6 @@
 -- `filter::table::eight_bytes` meets its contract: after each byte the number is that of the bytes read, and eight bytes fit a u64. Assumes nothing.
 use native.Mathlib.Omega.{arith}
 use Rattle.filter.proofs.CompareLaws.{number-one, number-next}
-use borrow.Author.Rules.{rules}
 use Rattle.filter.proofs.table.eight_bytes.Goals as goal
 
 pub returns : goal.returns

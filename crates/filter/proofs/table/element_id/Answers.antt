@@ -7,7 +7,6 @@ use Rattle.bucket.specs.Digits.{joined}
 use Rattle.bucket.specs.Lists.{part}
 use Rattle.filter.specs.Table.{first_eight}
 use Rattle.filter.proofs.TableLaws.{hashes-length, id-at, id-past}
-use borrow.Author.Rules.{rules}
 use Rattle.filter.proofs.table.element_id.Goals as goal
 
 pub returns-then-count-i : goal.returns-then-count-i

@@ -1,11 +1,10 @@
 use mathlib.Core.Path.{sym, ap, ◌∙◌}
-use Prim.Native.Nat.{◌+◌, ◌-◌, ◌/◌}
+use Prim.Native.Nat.{◌+◌, ◌/◌}
 use native.Mathlib.Omega.{arith}
 use lib.ListN.{get_or}
 use Rattle.filter.specs.Table.{hashes_of, position}
-use Rattle.filter.proofs.BisectLaws.{Halving, halving_start, halving_right, halving_left, halving_end, position_zero}
+use Rattle.filter.proofs.BisectLaws.{halving_start, halving_right, halving_left, halving_end, position_zero}
 use Rattle.filter.proofs.TableLaws.{hashes-length, hash-past, hashes-compared}
-use borrow.Author.Rules.{rules}
 use Rattle.filter.proofs.table.hash_position.Goals as goal
 
 pub returns-then-hash-lt64 : goal.returns-then-hash-lt64

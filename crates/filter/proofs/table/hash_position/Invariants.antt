@@ -1,13 +1,9 @@
 -- `filter::table::hash_position` meets its contract. The invariant: the definition's search from lo to hi ends where the whole search ends.
 -- The measure is what lies between them. Where there is no hash to look for, none is below it. Assumes nothing.
-use mathlib.Core.Path.{sym, ap, ◌∙◌}
-use Prim.Native.Nat.{◌+◌, ◌-◌, ◌/◌}
-use native.Mathlib.Omega.{arith}
+use Prim.Native.Nat.{◌-◌}
 use lib.ListN.{get_or}
-use Rattle.filter.specs.Table.{hashes_of, position}
-use Rattle.filter.proofs.BisectLaws.{Halving, halving_start, halving_right, halving_left, halving_end, position_zero}
-use Rattle.filter.proofs.TableLaws.{hashes-length, hash-past, hashes-compared}
-use borrow.Author.Rules.{rules}
+use Rattle.filter.specs.Table.{hashes_of}
+use Rattle.filter.proofs.BisectLaws.{Halving}
 use Rattle.filter.proofs.table.hash_position.Given as goal
 
 abbrev pub invariant-loop-lo : goal.invariant-loop-lo

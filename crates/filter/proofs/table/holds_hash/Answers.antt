@@ -10,7 +10,6 @@ use Rattle.bucket.proofs.TestLaws.{and_fails}
 use Rattle.filter.specs.Table.{hashes_of, holds}
 use Rattle.filter.proofs.BisectLaws.{holds-past, holds_not_above}
 use Rattle.filter.proofs.TableLaws.{hashes-length, hashes-compared}
-use borrow.Author.Rules.{rules}
 use Rattle.filter.proofs.table.holds_hash.Goals as goal
 
 pub returns-then-hash-lt64 : goal.returns-then-hash-lt64

@@ -6,7 +6,6 @@ use lib.Dec.{eqb}
 use Rattle.filter.specs.Table.{first_eight, ids_of}
 use Rattle.filter.proofs.BisectLaws.{holds-past, holds-there}
 use Rattle.filter.proofs.TableLaws.{hashes-length, ids-length}
-use borrow.Author.Rules.{rules}
 use Rattle.filter.proofs.table.holds_id.Goals as goal
 
 pub returns-then-count-at : goal.returns-then-count-at

@@ -1,12 +1,11 @@
 use mathlib.Core.Path.{sym, ap, ◌∙◌}
-use Prim.Native.Nat.{ℕ, ◌-◌}
+use Prim.Native.Nat.{ℕ}
 use native.Mathlib.Omega.{arith}
 use lib.Dec.{ltb}
 use borrow.Author.Tests.{lt-ltb, le-ltb}
 use Rattle.filter.specs.Table.{first_eight, ids_of}
-use Rattle.filter.proofs.BisectLaws.{Halving, halving_start, halving_right, halving_left, halving_end}
+use Rattle.filter.proofs.BisectLaws.{halving_start, halving_right, halving_left, halving_end}
 use Rattle.filter.proofs.TableLaws.{hashes-length, ids-length}
-use borrow.Author.Rules.{rules}
 use Rattle.filter.proofs.table.id_position.Goals as goal
 
 pub loop-lo-init : goal.loop-lo-init

@@ -1,11 +1,9 @@
 use mathlib.Core.Path.{◌≡◌, sym}
-use Prim.Native.Nat.{◌-◌}
 use native.Mathlib.Omega.{arith}
 use lib.ListN.{length}
 use Rattle.filter.specs.Table.{first_eight, ids_of}
-use Rattle.filter.proofs.OrderLaws.{Rising, rising-start, rising-next, rising-stops, rising-end, ascending-none}
+use Rattle.filter.proofs.OrderLaws.{rising-start, rising-next, rising-stops, rising-end, ascending-none}
 use Rattle.filter.proofs.TableLaws.{hashes-length, ids-length}
-use borrow.Author.Rules.{rules}
 use Rattle.filter.proofs.table.ids_ascend.Goals as goal
 
 pub returns-then-n-eq0 : goal.returns-then-n-eq0

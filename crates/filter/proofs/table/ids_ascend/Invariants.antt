@@ -1,13 +1,10 @@
 -- `filter::table::ids_ascend` meets its contract. The invariant: the IDs before e ascend, and last is the one before e. The measure is what is left
 -- of the IDs. Assumes nothing.
-use mathlib.Core.Path.{◌≡◌, sym}
+use mathlib.Core.Path.{◌≡◌}
 use Prim.Native.Nat.{◌-◌}
-use native.Mathlib.Omega.{arith}
 use lib.ListN.{length}
 use Rattle.filter.specs.Table.{first_eight, ids_of}
-use Rattle.filter.proofs.OrderLaws.{Rising, rising-start, rising-next, rising-stops, rising-end, ascending-none}
-use Rattle.filter.proofs.TableLaws.{hashes-length, ids-length}
-use borrow.Author.Rules.{rules}
+use Rattle.filter.proofs.OrderLaws.{Rising}
 use Rattle.filter.proofs.table.ids_ascend.Given as goal
 
 abbrev pub invariant-loop-e : goal.invariant-loop-e

@@ -1,7 +1,5 @@
-use Prim.Native.Nat.{◌-◌}
 use native.Mathlib.Omega.{arith}
-use Rattle.filter.proofs.CompareLaws.{Tied, tied_start, tied_next, tied_ends, tied_end}
-use borrow.Author.Rules.{rules}
+use Rattle.filter.proofs.CompareLaws.{tied_start, tied_next, tied_ends, tied_end}
 use Rattle.filter.proofs.table.is_below.Goals as goal
 
 pub loop-k-init : goal.loop-k-init

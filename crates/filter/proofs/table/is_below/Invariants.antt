@@ -1,9 +1,7 @@
 -- `filter::table::is_below` meets its contract. The invariant: the first k bytes of both hashes are the same, so the bytes behind them tell.
 -- The measure is what is left of the 64. Assumes nothing.
 use Prim.Native.Nat.{◌-◌}
-use native.Mathlib.Omega.{arith}
-use Rattle.filter.proofs.CompareLaws.{Tied, tied_start, tied_next, tied_ends, tied_end}
-use borrow.Author.Rules.{rules}
+use Rattle.filter.proofs.CompareLaws.{Tied}
 use Rattle.filter.proofs.table.is_below.Given as goal
 
 abbrev pub invariant-loop-k : goal.invariant-loop-k

@@ -2,7 +2,6 @@
 use mathlib.Core.Path.{◌∙◌}
 use native.Mathlib.Omega.{arith}
 use Rattle.filter.proofs.TableLaws.{hashes-length, table_torn, table_large, table_by_ids}
-use borrow.Author.Rules.{rules}
 use Rattle.filter.proofs.table.is_table.Goals as goal
 
 pub returns-then-table-ne0 : goal.returns-then-table-ne0

@@ -1,6 +1,5 @@
 -- `stepping::is_good_front` meets its contract: each answer is the definition's at the test that led to it. Assumes nothing.
 use Rattle.bucket.proofs.TestLaws.{test_refused, test_granted}
-use borrow.Author.Rules.{rules}
 use borrow.Author.Tests.{eq-eqb, ne_eqb}
 use Rattle.form.specs.Tallies.{front_by}
 use Rattle.std.proofs.Common.{ap}

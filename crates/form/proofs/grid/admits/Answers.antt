@@ -6,7 +6,6 @@ use Prim.Native.Nat.{ℕ, ◌<◌}
 use native.Mathlib.Omega.{arith}
 use lib.Dec.{ltb}
 use lib.ListN.{get_or}
-use borrow.Author.Rules.{rules}
 use borrow.Author.Tests.{ltb-true}
 use Rattle.ledger.specs.Grid.{states, is_state, row_of, grid, entry}
 use Rattle.ledger.proofs.GridLaws.{place-there, no_state, no_kind}

@@ -1,5 +1,4 @@
 -- `grid::admits_slice` meets its contract: it makes the definition's tests. Assumes nothing.
-use borrow.Author.Rules.{rules}
 use Rattle.form.specs.Answers.{admits_slice}
 use Rattle.form.proofs.grid.admits_slice.Goals as goal
 

@@ -2,7 +2,6 @@
 use mathlib.Core.Path.{ap, ◌∙◌}
 use Prim.Native.Nat.{ℕ}
 use lib.Dec.{ltb}
-use borrow.Author.Rules.{rules}
 use Rattle.ledger.specs.Grid.{states}
 use Rattle.ledger.proofs.GridLaws.{place-there}
 use Rattle.form.proofs.grid.is_state.Goals as goal

@@ -1,7 +1,5 @@
-use mathlib.Core.Logic.{⊎_elim}
-use Prim.Native.Nat.{◌+◌, ◌-◌}
 use native.Mathlib.Omega.{arith}
-use Rattle.form.proofs.CommonLaws.{both_below, Merging, merging_start, merging_both, merging_left, merging_right, merging_end}
+use Rattle.form.proofs.CommonLaws.{both_below, merging_start, merging_both, merging_left, merging_right, merging_end}
 use Rattle.form.proofs.judging.common.Goals as goal
 use Rattle.form.proofs.judging.common.Goals.{then-x-y, else-x-y, then-x-y-2, else-x-y-2}
 

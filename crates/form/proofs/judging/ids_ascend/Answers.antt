@@ -1,9 +1,8 @@
 use mathlib.Core.Path.{sym}
-use Prim.Native.Nat.{◌-◌}
 use native.Mathlib.Omega.{arith}
 use lib.ListN.{take, get_or, length-take}
 use lib.Seq.{get_or-take}
-use Rattle.filter.proofs.OrderLaws.{Rising, rising-start, rising-next, rising-stops, rising-end, ascending-none}
+use Rattle.filter.proofs.OrderLaws.{rising-start, rising-next, rising-stops, rising-end, ascending-none}
 use Rattle.form.proofs.judging.ids_ascend.Goals as goal
 
 pub returns-then-n-eq0 : goal.returns-then-n-eq0

@@ -1,11 +1,8 @@
 -- `judging::ids_ascend` meets its contract. The invariant: the IDs before i ascend, and last is the one before i. The measure is what is left of them.
 -- Assumes nothing.
-use mathlib.Core.Path.{sym}
 use Prim.Native.Nat.{◌-◌}
-use native.Mathlib.Omega.{arith}
-use lib.ListN.{take, get_or, length-take}
-use lib.Seq.{get_or-take}
-use Rattle.filter.proofs.OrderLaws.{Rising, rising-start, rising-next, rising-stops, rising-end, ascending-none}
+use lib.ListN.{take}
+use Rattle.filter.proofs.OrderLaws.{Rising}
 use Rattle.form.proofs.judging.ids_ascend.Given as goal
 
 abbrev pub invariant-loop-i : goal.invariant-loop-i

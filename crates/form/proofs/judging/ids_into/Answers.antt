@@ -1,13 +1,12 @@
-use mathlib.Core.Path.{◌≡◌, ap, ◌∙◌}
+use mathlib.Core.Path.{ap, ◌∙◌}
 use mathlib.Core.List.{List}
-use Prim.Native.Nat.{ℕ, ◌-◌, ◌≤◌}
+use Prim.Native.Nat.{ℕ, ◌≤◌}
 use native.Mathlib.Nat.{zero-add}
 use native.Mathlib.Omega.{arith}
-use lib.ListN.{length, take}
+use lib.ListN.{length}
 use lib.Seq.{take_all}
-use borrow.Author.Rules.{rules}
 use Rattle.bucket.specs.Lists.{over}
-use Rattle.bucket.proofs.OverLaws.{Laid, laid-start, laid-take}
+use Rattle.bucket.proofs.OverLaws.{laid-start, laid-take}
 use Rattle.filter.specs.Table.{first_eight, ids_of}
 use Rattle.filter.proofs.TableLaws.{hashes-length, ids-length}
 use Rattle.form.proofs.judging.ids_into.Goals as goal

@@ -1,5 +1,4 @@
 -- `judging::is_record_mark` meets its contract, by what the tests of bits answer. Assumes nothing.
-use borrow.Author.Rules.{rules}
 use Rattle.form.specs.Tallies.{record_mark}
 use Rattle.form.proofs.judging.is_record_mark.Goals as goal
 

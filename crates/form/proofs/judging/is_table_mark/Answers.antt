@@ -1,5 +1,4 @@
 -- `judging::is_table_mark` meets its contract, by what the tests of bits answer. Assumes nothing.
-use borrow.Author.Rules.{rules}
 use Rattle.form.specs.Tallies.{table_mark}
 use Rattle.form.proofs.judging.is_table_mark.Goals as goal
 

@@ -1,10 +1,10 @@
 use mathlib.Core.Path.{sym, ap}
-use Prim.Native.Nat.{ℕ, ◌-◌}
+use Prim.Native.Nat.{ℕ}
 use native.Mathlib.Nat.{zero-add}
 use native.Mathlib.Omega.{arith}
 use lib.ListN.{get_or}
 use Rattle.form.specs.Tallies.{is_zero}
-use Rattle.form.proofs.AllOfLaws.{Tested, tested_start, tested_next, tested_end}
+use Rattle.form.proofs.AllOfLaws.{tested_start, tested_next, tested_end}
 use Rattle.form.proofs.judging.marks_are_zero.Goals as goal
 
 pub loop-i-init : goal.loop-i-init

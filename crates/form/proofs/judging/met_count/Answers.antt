@@ -1,9 +1,6 @@
 use mathlib.Core.Path.{sym, ◌∙◌}
-use mathlib.Core.Logic.{⊎_elim}
-use Prim.Native.Nat.{◌≤◌, ◌-◌}
 use native.Mathlib.Omega.{arith}
-use borrow.Author.Rules.{rules}
-use Rattle.form.proofs.AllOfLaws.{Counted, counted_start, counted-met, counted_other, counted-end}
+use Rattle.form.proofs.AllOfLaws.{counted_start, counted-met, counted_other, counted-end}
 use Rattle.form.proofs.judging.met_count.Goals as goal
 use Rattle.form.proofs.judging.met_count.Goals.{then-is_met, else-is_met}
 

@@ -1,11 +1,7 @@
 -- `judging::met_count` meets its contract: what was counted so far and the marks from i on are the whole count. The measure is what is left of them.
 -- Assumes nothing.
-use mathlib.Core.Path.{sym, ◌∙◌}
-use mathlib.Core.Logic.{⊎_elim}
 use Prim.Native.Nat.{◌≤◌, ◌-◌}
-use native.Mathlib.Omega.{arith}
-use borrow.Author.Rules.{rules}
-use Rattle.form.proofs.AllOfLaws.{Counted, counted_start, counted-met, counted_other, counted-end}
+use Rattle.form.proofs.AllOfLaws.{Counted}
 use Rattle.form.proofs.judging.met_count.Given as goal
 
 abbrev pub invariant-loop-i : goal.invariant-loop-i

@@ -1,8 +1,6 @@
-use Prim.Native.Nat.{◌-◌}
 use native.Mathlib.Omega.{arith}
-use borrow.Author.Rules.{rules}
 use Rattle.form.specs.Tallies.{record_mark}
-use Rattle.form.proofs.AllOfLaws.{Tested, tested_start, tested_next, tested_end}
+use Rattle.form.proofs.AllOfLaws.{tested_start, tested_next, tested_end}
 use Rattle.form.proofs.judging.record_marks_fit.Goals as goal
 
 pub loop-i-init : goal.loop-i-init

@@ -1,10 +1,8 @@
 -- `judging::record_marks_fit` meets its contract: what was found so far and the marks from i on decide. The measure is what is left of them.
 -- Assumes nothing.
 use Prim.Native.Nat.{◌-◌}
-use native.Mathlib.Omega.{arith}
-use borrow.Author.Rules.{rules}
 use Rattle.form.specs.Tallies.{record_mark}
-use Rattle.form.proofs.AllOfLaws.{Tested, tested_start, tested_next, tested_end}
+use Rattle.form.proofs.AllOfLaws.{Tested}
 use Rattle.form.proofs.judging.record_marks_fit.Given as goal
 
 abbrev pub invariant-loop-i : goal.invariant-loop-i

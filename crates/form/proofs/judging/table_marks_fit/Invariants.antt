@@ -1,13 +1,8 @@
 -- `judging::table_marks_fit` meets its contract: what was found so far and the marks from i on decide. The measure is what is left of them.
 -- Assumes nothing.
-use mathlib.Core.Path.{sym, ap, ◌∙◌}
-use Prim.Native.Nat.{ℕ, ◌-◌}
-use native.Mathlib.Nat.{zero-add}
-use native.Mathlib.Omega.{arith}
-use lib.ListN.{get_or}
-use borrow.Author.Rules.{rules}
+use Prim.Native.Nat.{◌-◌}
 use Rattle.form.specs.Tallies.{table_mark}
-use Rattle.form.proofs.AllOfLaws.{Tested, tested_start, tested_next, tested_end}
+use Rattle.form.proofs.AllOfLaws.{Tested}
 use Rattle.form.proofs.judging.table_marks_fit.Given as goal
 
 abbrev pub invariant-loop-i : goal.invariant-loop-i

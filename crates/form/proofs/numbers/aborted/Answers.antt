@@ -1,5 +1,4 @@
 -- `numbers::aborted` meets its contract: the numbers in state 7. Assumes nothing.
-use borrow.Author.Rules.{rules}
 use Rattle.form.proofs.numbers.aborted.Goals as goal
 
 pub returns : goal.returns

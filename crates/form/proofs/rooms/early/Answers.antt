@@ -2,7 +2,6 @@
 use mathlib.Core.Path.{◌≡◌, refl, sym, ◌∙◌}
 use mathlib.Core.Bool.{Bool, not, cond}
 use Prim.Native.Nat.{ℕ}
-use borrow.Author.Rules.{rules}
 use borrow.Author.Tests.{not-true, not-false}
 use Rattle.filter.specs.declared.answers.Refusal.TheVariants.{None, Form, Room, OutOfTurn}
 use Rattle.filter.specs.Answers.{refusal_number}

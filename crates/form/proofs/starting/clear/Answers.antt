@@ -1,10 +1,9 @@
 use mathlib.Core.Path.{◌≡◌, sym, ap, ◌∙◌}
-use Prim.Native.Nat.{ℕ, ◌-◌, ◌≤◌}
+use Prim.Native.Nat.{ℕ}
 use native.Mathlib.Omega.{arith}
-use borrow.Author.Rules.{rules}
 use lib.ListN.{replicate, length-replicate, replicate-append-replicate}
 use Rattle.bucket.specs.Lists.{over}
-use Rattle.bucket.proofs.OverLaws.{Laid, laid-start, laid_next}
+use Rattle.bucket.proofs.OverLaws.{laid-start, laid_next}
 use Rattle.form.proofs.starting.clear.Goals as goal
 
 pub loop-j-init : goal.loop-j-init

@@ -1,5 +1,4 @@
 -- `starting::no_session` meets its contract: no numbers but the state's. Assumes nothing.
-use borrow.Author.Rules.{rules}
 use Rattle.form.proofs.starting.no_session.Goals as goal
 
 pub returns : goal.returns

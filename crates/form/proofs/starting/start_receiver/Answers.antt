@@ -1,7 +1,6 @@
 -- `starting::start_receiver` meets its contract: each early answer is the definition's at the test that failed, and behind them the table's
 -- marks are cleared. Assumes nothing.
 use native.Mathlib.Omega.{arith}
-use borrow.Author.Rules.{rules}
 use Rattle.bucket.proofs.TestLaws.{test_refused, test_granted}
 use Rattle.filter.proofs.TableLaws.{hashes-length, table-count}
 use Rattle.form.proofs.StartLaws.{receiver_no_table, receiver_no_room, receiver_starts}

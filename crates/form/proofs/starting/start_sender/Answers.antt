@@ -1,7 +1,6 @@
 -- `starting::start_sender` meets its contract: each early answer is the definition's at the test that failed, and behind them the table's marks
 -- are cleared and its filter is written. Assumes nothing.
 use native.Mathlib.Omega.{arith}
-use borrow.Author.Rules.{rules}
 use lib.ListN.{length}
 use Rattle.bucket.proofs.TestLaws.{test_refused, test_granted}
 use Rattle.filter.proofs.TableLaws.{hashes-length, table-count}

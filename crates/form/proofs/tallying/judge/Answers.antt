@@ -1,7 +1,6 @@
 -- `tallying::judge` meets its contract: a front that is not good has no tally, and else the ledger's is the answer. Assumes nothing.
 use mathlib.Core.Path.{◌≡◌, ap, ◌∙◌}
 use mathlib.Core.List.{[]}
-use borrow.Author.Rules.{rules}
 use Rattle.bucket.specs.Columns.{columns}
 use Rattle.bucket.proofs.TestLaws.{test_refused, test_granted}
 use Rattle.ledger.specs.Calls.{Given, given, good_form}

@@ -5,7 +5,6 @@ use Prim.Native.Nat.{◌*◌}
 use native.Mathlib.Omega.{arith}
 use lib.Dec.{eqb}
 use lib.ListN.{take}
-use borrow.Author.Rules.{rules}
 use Rattle.ledger.specs.declared.numbers.Numbers.{Numbers}
 use Rattle.form.specs.Tallies.{tally_of, tally_there}
 use Rattle.form.proofs.tallying.judge_ledger.Goals as goal

@@ -7,7 +7,6 @@ use Prim.Native.Nat.{ℕ, ◌*◌, ◌≤◌}
 use native.Mathlib.Omega.{arith}
 use lib.ListN.{length, take}
 use lib.Seq.{length-take-le}
-use borrow.Author.Rules.{rules}
 use Rattle.bucket.proofs.TestLaws.{test_refused, test_granted}
 use Rattle.filter.specs.Lists.{ascending}
 use Rattle.filter.specs.Table.{first_eight, is_table}

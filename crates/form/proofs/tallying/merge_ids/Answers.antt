@@ -3,7 +3,6 @@ use mathlib.Core.Path.{ap, ap₂, ◌∙◌}
 use mathlib.Core.List.{List}
 use Prim.Native.Nat.{ℕ}
 use lib.ListN.{take}
-use borrow.Author.Rules.{rules}
 use Rattle.form.specs.Tallies.{common}
 use Rattle.form.proofs.JudgeLaws.{table-few, Gathered, gathered}
 use Rattle.form.proofs.tallying.merge_ids.Goals as goal

@@ -1,10 +1,9 @@
 use mathlib.Core.Path.{◌≡◌, ap, ◌∙◌}
-use Prim.Native.Nat.{ℕ, ◌+◌, ◌-◌, ◌≤◌}
+use Prim.Native.Nat.{ℕ, ◌+◌}
 use native.Mathlib.Omega.{arith}
-use borrow.Author.Rules.{rules}
 use Rattle.bucket.specs.Digits.{packed}
 use Rattle.bucket.specs.Lists.{over, part}
-use Rattle.message.proofs.PutLaws.{Put, put-start, put_next}
+use Rattle.message.proofs.PutLaws.{put-start, put_next}
 use Rattle.message.proofs.copying.put_hashes.Goals as goal
 
 pub loop-j-init : goal.loop-j-init

@@ -1,11 +1,6 @@
 -- `copying::put_ids` meets its contract. The loop's invariant: the first j numbers stand in the buffer, and nothing else has changed. Assumes nothing.
-use mathlib.Core.Path.{◌≡◌, ap, ◌∙◌}
-use Prim.Native.Nat.{ℕ, ◌-◌, ◌≤◌}
-use native.Mathlib.Omega.{arith}
-use borrow.Author.Rules.{rules}
-use Rattle.bucket.specs.Digits.{packed}
-use Rattle.bucket.specs.Lists.{over, part}
-use Rattle.message.proofs.PutLaws.{Put, put-start, put_next}
+use Prim.Native.Nat.{◌-◌, ◌≤◌}
+use Rattle.message.proofs.PutLaws.{Put}
 use Rattle.message.proofs.copying.put_ids.Given as goal
 
 abbrev pub invariant-loop-j : goal.invariant-loop-j

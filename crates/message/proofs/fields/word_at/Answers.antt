@@ -6,7 +6,6 @@ use native.Mathlib.Omega.{arith}
 use lib.Pow.{pow_mono}
 use Rattle.message.specs.Reading.{field}
 use Rattle.message.proofs.ReadLaws.{field_lt}
-use borrow.Author.Rules.{rules}
 use Rattle.message.proofs.fields.word_at.Goals as goal
 
 pub overflow_cast-result : goal.overflow_cast-result

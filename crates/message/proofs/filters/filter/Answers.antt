@@ -2,7 +2,6 @@
 -- Assumes nothing.
 use mathlib.Core.Path.{◌≡◌}
 use mathlib.Core.Bool.{true}
-use borrow.Author.Rules.{rules}
 use Rattle.bucket.specs.Columns.{columns}
 use Rattle.bucket.proofs.TestLaws.{test_refused, test_granted}
 use Rattle.filter.specs.Calls.{in_range, are_counts, has_room}

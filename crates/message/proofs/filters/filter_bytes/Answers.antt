@@ -2,7 +2,6 @@
 use mathlib.Core.Path.{sym, ap, ap₂, ◌∙◌}
 use Prim.Native.Nat.{◌+◌}
 use native.Mathlib.Omega.{arith}
-use borrow.Author.Rules.{rules}
 use Rattle.message.specs.Layout.{slice_bytes}
 use Rattle.message.proofs.SliceLaws.{slice-bits, filter_bytes_large, filter_bytes-small}
 use Rattle.message.proofs.filters.filter_bytes.Goals as goal

@@ -1,14 +1,10 @@
 -- `filters::largest` meets its contract. The loop's invariant: the largest of the first i counts. The measure is what is left of them.
 -- Assumes nothing.
-use mathlib.Core.Path.{◌≡◌, sym, ap, ap₂, ◌∙◌}
-use Prim.Native.Nat.{ℕ, ◌-◌, ◌≤◌, max}
-use native.Mathlib.Omega.{arith}
-use borrow.Author.Rules.{rules}
+use mathlib.Core.Path.{◌≡◌}
+use Prim.Native.Nat.{◌-◌, ◌≤◌}
 use lib.ListN.{take}
-use Rattle.bucket.specs.Packing.{number, numbers}
-use Rattle.bucket.proofs.NumberLaws.{count-stored}
+use Rattle.bucket.specs.Packing.{numbers}
 use Rattle.message.specs.Writing.{largest}
-use Rattle.message.proofs.WidthLaws.{largest-none, largest-next}
 use Rattle.message.proofs.filters.largest.Given as goal
 
 abbrev pub invariant-loop-i : goal.invariant-loop-i

@@ -1,6 +1,5 @@
 -- `filters::width_for` meets its contract: the largest count has 32 bits, so the cast loses none. Assumes nothing.
 use mathlib.Core.Path.{ap, ◌∙◌}
-use borrow.Author.Rules.{rules}
 use Rattle.bucket.specs.Counts.{width_of}
 use Rattle.message.specs.Writing.{width_for}
 use Rattle.message.proofs.WidthLaws.{largest-small}

@@ -1,6 +1,5 @@
 -- `frames::put_filter` meets its contract: the second slice, where there is one, is put behind the first. Assumes nothing.
 use native.Mathlib.Omega.{arith}
-use borrow.Author.Rules.{rules}
 use Rattle.bucket.specs.Columns.{columns}
 use Rattle.message.proofs.SliceLaws.{second_put, one-slice, two_slices}
 use Rattle.message.proofs.frames.put_filter.Goals as goal

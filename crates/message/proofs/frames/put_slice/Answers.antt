@@ -1,7 +1,6 @@
 -- `frames::put_slice` meets its contract: head, IDSUMs, HASHSUMs and counters, one behind the other. Assumes nothing.
 use mathlib.Core.Path.{◌∙◌}
 use native.Mathlib.Omega.{arith}
-use borrow.Author.Rules.{rules}
 use Rattle.bucket.specs.Columns.{columns}
 use Rattle.message.proofs.SliceLaws.{slice_writes, part_between}
 use Rattle.message.proofs.frames.put_slice.Goals as goal

@@ -1,7 +1,6 @@
 -- `items::counter_at` meets its contract: the counters stand behind the HASHSUMs, packed. Assumes nothing.
 use borrow.Author.Tests.{le-leb, lt-leb}
 use Rattle.message.specs.Items.{counter_of}
-use borrow.Author.Rules.{rules}
 use Rattle.message.proofs.items.counter_at.Goals as goal
 
 pub returns-then-n-gt-MOST_BUCKETS : goal.returns-then-n-gt-MOST_BUCKETS

@@ -5,7 +5,6 @@ use native.Mathlib.Nat.{add-sub_cancel_left}
 use native.Mathlib.Omega.{arith}
 use Rattle.bucket.specs.Lists.{part}
 use Rattle.message.proofs.ReachLaws.{item_past, item_within, hash-past, hash-within}
-use borrow.Author.Rules.{rules}
 use Rattle.message.proofs.items.hash_at.Goals as goal
 
 pub returns-then-s-lt4 : goal.returns-then-s-lt4

@@ -2,7 +2,6 @@
 use borrow.Author.Tests.{le-leb, lt-leb, le-ltb, lt-ltb}
 use Rattle.message.specs.Items.{hashsum_at}
 use Rattle.message.proofs.ReachLaws.{number-below}
-use borrow.Author.Rules.{rules}
 use Rattle.message.proofs.items.hashsum_at.Goals as goal
 
 pub returns-then-n-gt-MOST_BUCKETS : goal.returns-then-n-gt-MOST_BUCKETS

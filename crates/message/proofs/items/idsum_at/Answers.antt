@@ -1,7 +1,6 @@
 -- `items::idsum_at` meets its contract: the IDSUMs are numbers of 8 bytes from position 16 on, as many as there are buckets. Assumes nothing.
 use borrow.Author.Tests.{le-ltb, lt-ltb}
 use Rattle.message.specs.Items.{idsum_at}
-use borrow.Author.Rules.{rules}
 use Rattle.message.proofs.items.idsum_at.Goals as goal
 
 pub returns-then-n-i : goal.returns-then-n-i

@@ -6,7 +6,6 @@ use native.Mathlib.Omega.{arith}
 use lib.ListN.{length}
 use Rattle.message.specs.Reading.{field}
 use Rattle.message.proofs.ReachLaws.{item_past, item_within, number_past, number-within}
-use borrow.Author.Rules.{rules}
 use Rattle.message.proofs.items.item_at.Goals as goal
 use Rattle.message.proofs.items.item_at.Goals.{Else-s-from-2}
 

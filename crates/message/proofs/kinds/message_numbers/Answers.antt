@@ -1,5 +1,4 @@
 -- `kinds::message_numbers` meets its contract: each kind's numbers are the definition's. Assumes nothing.
-use borrow.Author.Rules.{rules}
 use Rattle.message.proofs.kinds.message_numbers.Goals as goal
 
 pub returns-in-Ibf : goal.returns-in-Ibf

@@ -1,5 +1,4 @@
 -- `kinds::numbered` meets its contract: the refusal's number is the definition's, and the other numbers are those given. Assumes nothing.
-use borrow.Author.Rules.{rules}
 use Rattle.message.proofs.kinds.numbered.Goals as goal
 
 pub returns : goal.returns

@@ -1,5 +1,4 @@
 -- `kinds::write_numbers` meets its contract: each case's numbers are the definition's. Assumes nothing.
-use borrow.Author.Rules.{rules}
 use Rattle.message.proofs.kinds.write_numbers.Goals as goal
 
 pub returns-in-To : goal.returns-in-To

@@ -8,11 +8,9 @@ use Rattle.bucket.specs.Columns.{columns}
 use Rattle.message.specs.declared.kinds.Message.{Message}
 use Rattle.message.specs.declared.kinds.Message.TheVariants.{Ibf, IbfLast, Inquiry, Offer, Demand, Element, Done, Malformed}
 use Rattle.message.specs.Laying.{is_slice, slice_end}
-use Rattle.message.specs.Reading.{parse}
 use Rattle.message.specs.contracts.kinds.Message.{the_type}
 use Rattle.message.proofs.LayLaws.{lay_ibf, lay_last, lay_other, lay-known, sliced-lays}
 use Rattle.message.proofs.ShapeLaws.{shape}
-use borrow.Author.Rules.{rules}
 use Rattle.message.proofs.laying.lay.Goals as goal
 use borrow.Enum.Refused.{opened}
 

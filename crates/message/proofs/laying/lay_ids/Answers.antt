@@ -1,10 +1,5 @@
-use Prim.Native.Nat.{◌-◌, ◌*◌, ◌≤◌}
 use native.Mathlib.Omega.{arith}
-use lib.ListN.{take}
-use borrow.Author.Rules.{rules}
-use Rattle.bucket.specs.Digits.{unpacked}
-use Rattle.bucket.specs.Lists.{part}
-use Rattle.bucket.proofs.OverLaws.{Laid, laid-start}
+use Rattle.bucket.proofs.OverLaws.{laid-start}
 use Rattle.message.proofs.LayLaws.{numbers-next, numbers-end}
 use Rattle.message.proofs.laying.lay_ids.Goals as goal
 

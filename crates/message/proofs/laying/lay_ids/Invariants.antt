@@ -1,13 +1,10 @@
 -- `message::laying::lay_ids` meets its contract. The invariant: the first j numbers lie over the column from the position on. The measure is what
 -- is left of them. Assumes nothing.
 use Prim.Native.Nat.{◌-◌, ◌*◌, ◌≤◌}
-use native.Mathlib.Omega.{arith}
 use lib.ListN.{take}
-use borrow.Author.Rules.{rules}
 use Rattle.bucket.specs.Digits.{unpacked}
 use Rattle.bucket.specs.Lists.{part}
-use Rattle.bucket.proofs.OverLaws.{Laid, laid-start}
-use Rattle.message.proofs.LayLaws.{numbers-next, numbers-end}
+use Rattle.bucket.proofs.OverLaws.{Laid}
 use Rattle.message.proofs.laying.lay_ids.Given as goal
 
 abbrev pub invariant-loop-j : goal.invariant-loop-j

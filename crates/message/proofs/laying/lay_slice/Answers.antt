@@ -7,7 +7,6 @@ use Rattle.bucket.proofs.TestLaws.{test_refused, test_granted}
 use Rattle.filter.specs.Steps.{Wide}
 use Rattle.filter.proofs.FilledLaws.{wide_of}
 use Rattle.message.proofs.LayLaws.{takes-columns, buckets_refused, buckets_laid_lem}
-use borrow.Author.Rules.{rules}
 use Rattle.std.proofs.Common.{ap}
 use mathlib.Core.Bool.{not}
 use Rattle.message.proofs.laying.lay_slice.Goals as goal

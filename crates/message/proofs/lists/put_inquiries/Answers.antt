@@ -1,10 +1,8 @@
-use Prim.Native.Nat.{ℕ, ◌-◌}
+use Prim.Native.Nat.{ℕ}
 use mathlib.Core.List.{List}
 use native.Mathlib.Omega.{arith}
-use borrow.Author.Rules.{rules}
-use lib.ListN.{length}
 use Rattle.message.specs.Layout.{inquiry, layout}
-use Rattle.message.proofs.CutLaws.{Cutting, cutting_start, cutting_next, cutting_end}
+use Rattle.message.proofs.CutLaws.{cutting_start, cutting_next, cutting_end}
 use Rattle.message.proofs.WriteLaws.{inquiry-length}
 use Rattle.message.proofs.lists.put_inquiries.Goals as goal
 

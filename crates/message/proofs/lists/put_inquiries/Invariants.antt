@@ -1,12 +1,8 @@
 -- `lists::put_inquiries` meets its contract. The loop's invariant: what is left of the IDs, written from p on, gives the whole. Assumes nothing.
-use Prim.Native.Nat.{ℕ, ◌-◌}
-use mathlib.Core.List.{List}
-use native.Mathlib.Omega.{arith}
-use borrow.Author.Rules.{rules}
+use Prim.Native.Nat.{◌-◌}
 use lib.ListN.{length}
 use Rattle.message.specs.Layout.{inquiry, layout}
-use Rattle.message.proofs.CutLaws.{Cutting, cutting_start, cutting_next, cutting_end}
-use Rattle.message.proofs.WriteLaws.{inquiry-length}
+use Rattle.message.proofs.CutLaws.{Cutting}
 use Rattle.message.proofs.lists.put_inquiries.Given as goal
 
 abbrev pub invariant-loop-i : goal.invariant-loop-i

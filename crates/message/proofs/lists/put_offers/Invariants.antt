@@ -1,19 +1,12 @@
 -- `lists::put_offers` meets its contract. The loop's invariant: whole hashes are passed, and what is left of them, written from p on, gives the
 -- whole. Assumes nothing.
-use mathlib.Core.Path.{◌≡◌, ap, subst, ◌∙◌}
+use mathlib.Core.Path.{◌≡◌}
 use mathlib.Core.List.{List}
-use Prim.Native.Nat.{ℕ, ◌+◌, ◌-◌, ◌*◌, ◌/◌, ◌%◌, ◌≤◌, ◌<◌, min}
-use native.Mathlib.Omega.{arith}
-use borrow.Author.Rules.{rules}
+use Prim.Native.Nat.{ℕ, ◌-◌, ◌/◌, ◌%◌, ◌≤◌}
 use lib.ListN.{length}
-use Rattle.bucket.specs.Digits.{Below}
-use Rattle.bucket.specs.Lists.{over, part}
 use Rattle.filter.specs.Table.{hashes_of}
-use Rattle.filter.proofs.TableLaws.{hashes-length}
-use Rattle.message.specs.Layout.{framed}
 use Rattle.message.specs.Putting.{framed_hashes}
-use Rattle.message.proofs.CutLaws.{Cutting, cutting_start, cutting_next, cutting_end}
-use Rattle.message.proofs.HashLaws.{framed-part, framed-hashes-length}
+use Rattle.message.proofs.CutLaws.{Cutting}
 use Rattle.message.proofs.lists.put_offers.Given as goal
 
 abbrev pub Offering : (kind at : ℕ) (t out₀ out : List ℕ) (p i : ℕ) → Type 0

@@ -1,5 +1,4 @@
 -- `reader::ended` meets its contract: each case's answer is the definition's. Assumes nothing.
-use borrow.Author.Rules.{rules}
 use Rattle.message.proofs.reader.ended.Goals as goal
 
 pub returns-in-Found : goal.returns-in-Found

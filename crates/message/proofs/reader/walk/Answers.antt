@@ -1,5 +1,4 @@
-use Rattle.std.proofs.Common.{◌≡◌, ◌-◌, ℕ, Bool, true, false, sym, ap, ap₂, ◌∙◌, length, arith, List}
-use Rattle.message.specs.declared.reader.Reader.{Reader}
+use Rattle.std.proofs.Common.{◌≡◌, ◌-◌, ℕ, true, sym, ap, ap₂, ◌∙◌, length, arith, List}
 use Rattle.message.specs.declared.reader.Taken.{Taken}
 use Rattle.message.specs.declared.walking.Walked.{Walked}
 use Rattle.message.specs.Walking.{walk_at, behind, is_found, ended, reader_at, next_of}

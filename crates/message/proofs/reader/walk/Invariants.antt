@@ -1,6 +1,6 @@
 -- `reader::walk` meets its contract. Each time round the local holds the answer of `next` at some position, no more messages were counted than there are bytes
 -- before it, and the walk from there on gives the answer of the whole. The measure is how many more can be counted. Assumes nothing.
-use Rattle.std.proofs.Common.{◌≡◌, ℕ, ◌+◌, ◌-◌, ◌≤◌, length}
+use Rattle.std.proofs.Common.{◌≡◌, ℕ, ◌-◌, ◌≤◌, length}
 use Rattle.message.specs.Walking.{walk_at, behind, walk_on, whole_of}
 use Rattle.message.proofs.reader.walk.Given as goal
 

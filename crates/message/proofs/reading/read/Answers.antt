@@ -5,7 +5,6 @@ use borrow.Author.Tests.{le-leb, lt-leb, eq-eqb, ne_eqb}
 use Rattle.message.specs.Layout.{DEMAND, INQUIRY, OFFER, ELEMENT, DONE}
 use Rattle.message.specs.Reading.{parse, parse_body}
 use Rattle.message.proofs.ReadLaws.{short, other_size, typed}
-use borrow.Author.Rules.{rules}
 use Rattle.message.proofs.reading.read.Goals as goal
 use Rattle.message.proofs.reading.read.Goals.{After-word_at-kind}
 

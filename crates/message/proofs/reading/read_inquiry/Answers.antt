@@ -2,7 +2,6 @@
 use borrow.Author.Tests.{lt-leb}
 use Rattle.message.specs.Reading.{parse_inquiry}
 use Rattle.message.proofs.ReadLaws.{inquiry-whole, inquiry_torn}
-use borrow.Author.Rules.{rules}
 use Rattle.message.proofs.reading.read_inquiry.Goals as goal
 
 pub returns-then-s-lt16 : goal.returns-then-s-lt16

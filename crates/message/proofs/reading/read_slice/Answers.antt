@@ -3,7 +3,6 @@ use mathlib.Core.Path.{◌≡◌, ◌∙◌}
 use Rattle.message.specs.Reading.{slice_of, parse_slice}
 use Rattle.bucket.proofs.TestLaws.{test_refused, test_granted}
 use Rattle.message.proofs.ReadLaws.{slice-short, slice_fields, slice_unfit, slice-spare, slice-good}
-use borrow.Author.Rules.{rules}
 use Rattle.std.proofs.Common.{ap}
 use mathlib.Core.Bool.{not}
 use Rattle.message.proofs.reading.read_slice.Goals as goal

@@ -1,5 +1,4 @@
 -- `message::reading::slice_fits_lem` meets its contract: it is the definition, test by test. Assumes nothing.
-use borrow.Author.Rules.{rules}
 use Rattle.message.proofs.reading.slice_fits.Goals as goal
 
 pub returns : goal.returns

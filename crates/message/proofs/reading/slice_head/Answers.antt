@@ -1,6 +1,5 @@
 -- `message::reading::slice_head` meets its contract: it asks for the type that the definition asks for. Assumes nothing.
 use borrow.Author.Tests.{eq-eqb, ne_eqb}
-use borrow.Author.Rules.{rules}
 use Rattle.message.proofs.reading.slice_head.Goals as goal
 
 pub returns-then-kind-eq-IBF_LAST : goal.returns-then-kind-eq-IBF_LAST

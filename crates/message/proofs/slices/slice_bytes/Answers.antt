@@ -1,7 +1,6 @@
 -- `message::slices::slice_bytes` meets its contract: at most 2,520 buckets of a 32 bit width wrap nothing. Assumes nothing.
 use native.Mathlib.Nat.{mul-le-mul}
 use native.Mathlib.Omega.{arith}
-use borrow.Author.Rules.{rules}
 use Rattle.message.proofs.slices.slice_bytes.Goals as goal
 
 pub overflow_mul-result-2 : goal.overflow_mul-result-2

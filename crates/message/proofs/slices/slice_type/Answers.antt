@@ -1,5 +1,4 @@
 -- `message::slices::slice_type` meets its contract: its test is that of the definition. Assumes nothing.
-use borrow.Author.Rules.{rules}
 use Rattle.message.proofs.ReadLaws.{reaches_end, stops-before}
 use Rattle.message.proofs.slices.slice_type.Goals as goal
 

@@ -1,5 +1,4 @@
 -- `walking::numbers_at` meets its contract: each case's numbers are the definition's. Assumes nothing.
-use borrow.Author.Rules.{rules}
 use Rattle.message.proofs.walking.numbers_at.Goals as goal
 
 pub returns-in-Found : goal.returns-in-Found

@@ -10,7 +10,6 @@ use Rattle.message.specs.declared.kinds.Message.TheVariants.{Ibf, IbfLast, Inqui
 use Rattle.message.specs.declared.walking.Walked.TheVariants.{Found}
 use Rattle.message.specs.Walking.{step_of}
 use Rattle.message.specs.contracts.kinds.Message.{the_type}
-use borrow.Author.Rules.{rules}
 use Rattle.message.proofs.walking.step_of.Goals as goal
 
 -- the kinds before Malformed, by number

@@ -7,7 +7,6 @@ use Rattle.message.specs.declared.kinds.Message.{Message}
 use Rattle.message.specs.Reading.{parse}
 use Rattle.message.specs.Walking.{step_of}
 use Rattle.message.proofs.WalkLaws.{walk_end, walk_on_lem, walk_broken}
-use borrow.Author.Rules.{rules}
 use Rattle.message.proofs.walking.walk_at.Goals as goal
 
 pub returns-then-s-at : goal.returns-then-s-at

@@ -1,5 +1,4 @@
 -- `writing::demand` meets its contract, which is that of `hashes_as` for its type. Assumes nothing.
-use borrow.Author.Rules.{rules}
 use Rattle.message.specs.Layout.{demand}
 use Rattle.message.proofs.OfferLaws.{demand-says}
 use Rattle.message.proofs.writing.demand.Goals as goal

@@ -2,7 +2,6 @@
 -- Assumes nothing.
 use Prim.Native.Nat.{◌+◌, ◌≤◌}
 use native.Mathlib.Omega.{arith}
-use borrow.Author.Rules.{rules}
 use lib.ListN.{length}
 use Rattle.filter.proofs.TableLaws.{hashes-length}
 use Rattle.message.proofs.OfferLaws.{hashes_torn, hashes-refused, hashes-written}

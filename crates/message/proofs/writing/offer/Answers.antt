@@ -1,5 +1,4 @@
 -- `writing::offer` meets its contract, which is that of `hashes_as` for its type. Assumes nothing.
-use borrow.Author.Rules.{rules}
 use Rattle.message.specs.Layout.{offer}
 use Rattle.message.proofs.OfferLaws.{offer-says}
 use Rattle.message.proofs.writing.offer.Goals as goal
