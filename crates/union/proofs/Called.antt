@@ -284,7 +284,7 @@ module _ (derive : ℕ → ℕ) (bound : (h : ℕ) → h < 2 ^ 512 → derive h 
   call_session hash bs out = go (step_call derive G) (heard derive G) (call_leaves derive G form rooms lent.message)
     where
       go : (l : Left) (o : Outcome) → Leaves derive G l o → session_of derive (back G l hash bs out) ≡ o.session
-      go l o (acted c g e is _) =
+      go l o (acted c g e is made) =
           let n : ℕ = refusal derive (table_of G) (hash_given G) (session_of derive G) c in
           ap (λ (k : Left). session_of derive (back G k hash bs out)) is
           ∙ handed_back derive n o G hash bs out (subst (λ (p : Outcome). Roomy G p.session) (sym made) (acted-roomy c g e))
