@@ -24,7 +24,7 @@ use Rattle.filter.proofs.FilledLaws.{wide_of, wide-filled}
 use Rattle.filter.proofs.GrantedLaws.{granted-read}
 use Rattle.filter.proofs.MadeLaws.{made-counts}
 use Rattle.filter.proofs.TableLaws.{ids-length, table-count}
-use Rattle.differ.specs.Report.{blank, received, result}
+use Rattle.differ.specs.Report.{blank, received, our_reading}
 
 refusal_with : (v : Verdict) (size : ℕ) (r : Outcome) (l : ℕ) (c : Columns) (o th : List ℕ) → ((read_with v size r l c o th).answer.refusal ≡ 0) ⊎ ((read_with v size r l c o th).answer.refusal ≡ 6)
 unfolding read_with
@@ -75,8 +75,8 @@ module _ (size : ℕ) (a b : List ℕ) (tables : is_table first_eight a && is_ta
         and_holds columns-room (and_holds (le-leb size 512 small) (le-leb size 512 small)),
       )
 
-  pub result-refusal : ((result size a b).answer.refusal ≡ 0) ⊎ ((result size a b).answer.refusal ≡ 6)
-  unfolding result
+  pub result-refusal : ((our_reading size a b).answer.refusal ≡ 0) ⊎ ((our_reading size a b).answer.refusal ≡ 6)
+  unfolding our_reading
   result-refusal =
       let c = received size b in
       let zeros : List ℕ = replicate 512 0 in

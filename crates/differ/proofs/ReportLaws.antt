@@ -23,7 +23,7 @@ use Rattle.filter.specs.Calls.{Read, built, build_call, answered, unread, read_w
 use Rattle.filter.proofs.SideLaws.{sides_length}
 use Rattle.filter.proofs.PeelLaws.{listed-few}
 use Rattle.differ.specs.Text.{ours_label, theirs_label, listing, refusal, Writes}
-use Rattle.differ.specs.Report.{size_of, count_a, count_b, is_input, table_a, table_b, blank, received, result, shown, compared, printed, Reports}
+use Rattle.differ.specs.Report.{size_of, count_a, count_b, is_input, table_a, table_b, blank, received, our_reading, shown, compared, printed, Reports}
 use Rattle.differ.proofs.TextLaws.{decimal-length, heading-length, lines-length, listing-length, refusal-length}
 
 -- an input's length
@@ -87,16 +87,16 @@ few-read size t c o th = go (eqb n 0)
     go true = few_with (verdict_of (ids_of first_eight t) size 0 c) size (outcome_of (ids_of first_eight t) size 0 c) _ c o th (listed-few (filter_rule size 0) _)
     go false = omega arith
 
-pub few-listed : (size : ℕ) (a b : List ℕ) → (result size a b).answer.ours + (result size a b).answer.theirs ≤ size
-unfolding result
+pub few-listed : (size : ℕ) (a b : List ℕ) → (our_reading size a b).answer.ours + (our_reading size a b).answer.theirs ≤ size
+unfolding our_reading
 few-listed size a b = few-read size a (received size b) (replicate 512 0) (replicate 512 0)
 
 -- the two calls, one behind the other
 pub read_result : (size k : ℕ) (a b : List ℕ) (w : ReadAnswer) (c c' : Columns) (o th : List ℕ)
     → built k c ≡ build_call first_eight size 0 b blank
     → answered w c' o th ≡ read_call first_eight size 0 a c (replicate 512 0) (replicate 512 0)
-    → answered w c' o th ≡ result size a b
-unfolding result received
+    → answered w c' o th ≡ our_reading size a b
+unfolding our_reading received
 read_result size k a b w c c' o th made e =
     e ∙ ap (λ (q : Columns). read_call first_eight size 0 a q (replicate 512 0) (replicate 512 0)) (ap (λ q. q.columns) made)
 
@@ -127,7 +127,7 @@ module _ (size : ℕ) (a b : List ℕ) where
   unfolding compared
   compared-range h k = cond-kept _ _ k ∙ cond-made _ _ h
 
-  pub compared-shown : is_table first_eight a && is_table first_eight b ≡ true → leb 37 size && leb size 512 ≡ true → shown size (result size a b) ≡ compared size a b
+  pub compared-shown : is_table first_eight a && is_table first_eight b ≡ true → leb 37 size && leb size 512 ≡ true → shown size (our_reading size a b) ≡ compared size a b
   unfolding compared
   compared-shown h k = cond-made _ _ k ∙ cond-made _ _ h
 

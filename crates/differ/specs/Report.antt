@@ -4,7 +4,7 @@
 --   is_input input             the counts are within the limit, and no byte is missing or left over
 --   table_a, table_b            the hashes of our table and of the received one
 --   received size b           the filter of the received table, in columns of 512 zeros
---   result size a b           our reading of it, into lists of 512 zeros
+--   our_reading size a b      our reading of it, into lists of 512 zeros
 --   shown size r              what a reading prints
 --   compared size a b         what two tables print at a size
 --   printed input             what an input prints
@@ -50,8 +50,8 @@ blank = columns (replicate 512 0) (replicate 512 0) (replicate 512 (pos 0))
 unfoldable pub received : ℕ → List ℕ → Columns
 received size b = (build_call first_eight size 0 b blank).columns
 
-unfoldable pub result : ℕ → List ℕ → List ℕ → Read
-result size a b = read_call first_eight size 0 a (received size b) (replicate 512 0) (replicate 512 0)
+unfoldable pub our_reading : ℕ → List ℕ → List ℕ → Read
+our_reading size a b = read_call first_eight size 0 a (received size b) (replicate 512 0) (replicate 512 0)
 
 -- a refusal's number, or the IDs listed
 unfoldable pub shown : ℕ → Read → List ℕ
@@ -64,7 +64,7 @@ shown size r =
 unfoldable pub compared : ℕ → List ℕ → List ℕ → List ℕ
 compared size a b =
     cond (is_table first_eight a && is_table first_eight b)
-    (cond (leb 37 size && leb size 512) (shown size (result size a b)) (refusal 3))
+    (cond (leb 37 size && leb size 512) (shown size (our_reading size a b)) (refusal 3))
     (refusal 1)
 
 -- "1 for bytes missing or left over, counts above the limit"

@@ -5,15 +5,15 @@ ghost use Rattle.bucket.specs.Lists.{part};
 ghost use Rattle.io.specs.Counts.{IsPrefixLen};
 ghost use Rattle.differ.specs.Text.{Writes};
 ghost use Rattle.filter.specs.Table.{first_eight, is_table};
-ghost use Rattle.differ.specs.Report.{is_input, shown, result, compared, Reports};
+ghost use Rattle.differ.specs.Report.{is_input, shown, our_reading, compared, Reports};
 
 // Room for a heading and 512 lines: as many IDs as there are buckets, at most, are listed.
 pub const ROOM: usize = 16384;
 
 // Writes what an input prints to the start of out, and answers how many bytes that is. Nothing where out is shorter than ROOM.
 pub fn report(input: &[u8], out: &mut [u8]) -> usize
-    ensures* fact { λ r. ⌜ IsPrefixLen r out.new ⌝ }
-    ensures* fact_2 { λ r. ⌜ Reports input.now out.old r out.new ⌝ }
+    ensures counted { IsPrefixLen result out.new }
+    ensures reported { Reports input.now out.old result out.new }
 {
     if out.len() < ROOM {
         return 0;
@@ -27,14 +27,14 @@ pub fn report(input: &[u8], out: &mut [u8]) -> usize
 }
 
 fn field(input: &[u8], at: usize) -> u32
-    ensures* { λ r. ⌜ (r ≡ joined 8 (part at 2 input.now)) × (r < 65536) ⌝ }
+    ensures { (result ≡ joined 8 (part at 2 input.now)) × (result < 65536) }
 {
     bucket::bytes::number_at(input, at, 2) as u32
 }
 
 // Whether the counts are within the limit, and no byte is missing or left over.
 fn is_input(input: &[u8]) -> bool
-    ensures* { λ r. ⌜ r ≡ is_input input.now ⌝ }
+    ensures { result ≡ is_input input.now }
 {
     let n = field(input, 2) as usize + field(input, 4) as usize;
     (n <= 1000) & (input.len() == 6 + 64 * n)
@@ -43,7 +43,7 @@ fn is_input(input: &[u8]) -> bool
 // Both tables are judged before the size.
 fn compare(a: &[u8], b: &[u8], size: u32, out: &mut [u8]) -> usize
     requires { 16384 ≤ length out.old }
-    ensures* { λ r. ⌜ Writes 0 (compared size a.now b.now) out.old r out.new ⌝ }
+    ensures { Writes 0 (compared size a.now b.now) out.old result out.new }
 {
     if !are_tables(a, b) {
         return crate::text::put_refusal(out, 1);
@@ -55,7 +55,7 @@ fn compare(a: &[u8], b: &[u8], size: u32, out: &mut [u8]) -> usize
 }
 
 fn are_tables(a: &[u8], b: &[u8]) -> bool
-    ensures* { λ r. ⌜ r ≡ (is_table first_eight a.now && is_table first_eight b.now) ⌝ }
+    ensures { result ≡ (is_table first_eight a.now && is_table first_eight b.now) }
 {
     filter::table::is_table(a) & filter::table::is_table(b)
 }
@@ -63,7 +63,7 @@ fn are_tables(a: &[u8], b: &[u8]) -> bool
 // The received table's filter, then our reading of it. Behind the tests of compare only a false reading is refused.
 fn show(a: &[u8], b: &[u8], size: u32, out: &mut [u8]) -> usize
     requires { (size ≤ 512) × (16384 ≤ length out.old) }
-    ensures* { λ r. ⌜ Writes 0 (shown size (result size a.now b.now)) out.old r out.new ⌝ }
+    ensures { Writes 0 (shown size (our_reading size a.now b.now)) out.old result out.new }
 {
     let mut ids = [0u64; 512];
     let mut hashes = [0u32; 512];

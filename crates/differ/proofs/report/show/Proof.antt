@@ -8,7 +8,7 @@ use Rattle.bucket.specs.Columns.{columns}
 use Rattle.filter.specs.declared.answers.ReadAnswer.{ReadAnswer}
 use Rattle.filter.specs.Answers.{refusal_number, answer_of}
 use Rattle.filter.specs.Calls.{Read, answered}
-use Rattle.differ.specs.Report.{result}
+use Rattle.differ.specs.Report.{our_reading}
 use Rattle.differ.proofs.TextLaws.{writes_as}
 use Rattle.differ.proofs.ReportLaws.{refusal-fits, listing-fits, few-listed, read_result, shown-refused, shown-listed}
 use Rattle.differ.proofs.report.show.Statement.{statement}
@@ -17,7 +17,7 @@ use Rattle.differ.proofs.report.show.Tie as tie
 -- the two calls, one behind the other
 outcome : (c : tie.After-read)
     → answered (answer_of c.read.result) (columns c.read.new.1.0 c.read.new.1.1.0 c.read.new.1.1.1.0) c.read.new.1.1.1.1.0 c.read.new.1.1.1.1.1.0
-    ≡ result c.before.before.before.before.before.before.before.before.before.before.before.before.before.before.before.before.args.size c.before.before.before.before.before.before.before.before.before.before.before.before.before.before.before.before.args.a.now c.before.before.before.before.before.before.before.before.before.before.before.before.before.before.before.before.args.b.now
+    ≡ our_reading c.before.before.before.before.before.before.before.before.before.before.before.before.before.before.before.before.args.size c.before.before.before.before.before.before.before.before.before.before.before.before.before.before.before.before.args.a.now c.before.before.before.before.before.before.before.before.before.before.before.before.before.before.before.before.args.b.now
 outcome c =
     let a = c.before.before.before.before.before.before.before.before.before.before.before.before.before.before.before.before.args in
     let b = c.before.before.before.before.before.before.before.before.before.build in
