@@ -1,5 +1,4 @@
-//! Links the library's static archives, which `rt staticlib probe` and `rt staticlib tandawire`
-//! make.
+//! Links the library's static archives, which `make` and `make probe` in the root make.
 
 use std::path::PathBuf;
 
@@ -15,8 +14,9 @@ fn main() {
         println!("cargo:rerun-if-changed={}", archive.display());
         if !archive.is_file() {
             println!(
-                "cargo::error=missing: {} (make it with `rt staticlib {name}` in the root)",
-                archive.display()
+                "cargo::error=missing: {} (make it with `make {}` in the root)",
+                archive.display(),
+                if name == "probe" { name } else { "all" },
             );
         }
         println!("cargo:rustc-link-lib=static={name}");

@@ -57,7 +57,7 @@ fn program() -> PathBuf {
 /// Stops the comparison, for want of the program.
 fn cannot_run(why: &str) -> ! {
     println!("cannot run {}: {why}", program().display());
-    println!("(make it with `rt check differ` in the root, or name it in DIFFER)");
+    println!("(make it with `make differ` in the root, or name it in DIFFER)");
     exit(1);
 }
 
