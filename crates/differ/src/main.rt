@@ -6,7 +6,7 @@ mod text;
 
 ghost use Rattle.std.specs.Io.{ReadsAtMost};
 
-use std::io::{Read, Result, Write};
+use std::io::{Read, Result, Stdin, Write};
 
 fn main(rt: HostRuntime) -> Result<()> {
     // The longest good input is 6 + 64 × 1,000 bytes; one byte more shows that bytes are left over.
@@ -18,7 +18,7 @@ fn main(rt: HostRuntime) -> Result<()> {
 }
 
 // Reads until buf is full or the input ends, and answers how many bytes it put at the start of buf.
-fn read_full<R: Read>(from: &mut R, buf: &mut [u8]) -> Result<usize>
+fn read_full(from: &mut Stdin, buf: &mut [u8]) -> Result<usize>
     ensures { ReadsAtMost result buf.new }
 {
     let mut done = 0;
