@@ -9,7 +9,7 @@
 --   refusal n               "refused" and the number
 --   Writes at t l r m       writing t over the memory l from at on gives m, and r, inside m, is the position behind it
 --
--- The digits are those of the library `io`. Laws (proofs/TextLaws): decimal_fewest, lines-length, listing-length, writes-then.
+-- The digits are those of the library `io`. Laws (proofs/TextLaws): decimal_fewest, lines-length, listing-length, writes_then.
 -- Assumes nothing.
 use Rattle.std.specs.Prelude.{◌≡◌, cond, List, [], ◌∷◌, ◌++◌, ℕ, zero, suc, ◌+◌, ◌/◌, ◌≤◌, ltb, length}
 use Rattle.io.specs.Digits.{last_digits}
