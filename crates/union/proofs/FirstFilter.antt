@@ -13,7 +13,7 @@ use Prim.Native.Nat.{ℕ, ◌+◌, ◌≤◌}
 use native.Mathlib.Omega.{arith}
 use lib.Dec.{ltb}
 use borrow.Author.Tests.{eq-eqb, ne_eqb, ltb-true, ltb-false, le-ltb}
-use Rattle.bucket.specs.Columns.{Columns, columns}
+use Rattle.bucket.specs.Columns.{Columns}
 use Rattle.bucket.proofs.ListLaws.{eqb_self}
 use Rattle.filter.specs.Calls.{Read}
 use Rattle.message.specs.Layout.{Content, slice, done, in_slice}

@@ -1,15 +1,13 @@
 use mathlib.Core.Path.{sym, ap, ◌∙◌}
-use mathlib.Core.Logic.{⊎_elim}
 use mathlib.Core.Bool.{Bool, ◌||◌}
-use Prim.Native.Nat.{◌*◌, ◌-◌, ◌<◌}
+use Prim.Native.Nat.{◌*◌, ◌<◌}
 use native.Mathlib.Omega.{arith}
 use lib.Dec.{leb}
 use lib.ListN.{length}
 use Rattle.bucket.specs.Digits.{unpacked}
 use Rattle.bucket.specs.Lists.{part}
 use Rattle.session.proofs.PlaceLaws.{held-placed, place-placed, table-short}
-use Rattle.session.proofs.AskLaws.{item_read, items_inside, items_past, asked-few, Asking, asking-start, asking_passes, asking-stops, asking-next, asking-end}
-use borrow.Author.Rules.{rules}
+use Rattle.session.proofs.AskLaws.{item_read, items_inside, items_past, asked-few, asking-start, asking_passes, asking-stops, asking-next, asking-end}
 use Rattle.session.proofs.asking.ask_all.Goals as goal
 use Rattle.session.proofs.asking.ask_all.Goals.{then-is_held+else-is_asked-m, else-is_held}
 use Rattle.session.proofs.asking.ask_all.Goals.{Then-is_held}

@@ -1,17 +1,9 @@
 -- `session::asking::ask_all` meets its contract. The invariant: the walk has come to item i. The measure is how many items are left.
 -- Assumes nothing.
-use mathlib.Core.Path.{sym, ap, ◌∙◌}
-use mathlib.Core.Logic.{⊎_elim}
-use mathlib.Core.Bool.{Bool, ◌||◌}
-use Prim.Native.Nat.{◌*◌, ◌-◌, ◌<◌}
-use native.Mathlib.Omega.{arith}
-use lib.Dec.{leb}
-use lib.ListN.{length}
+use Prim.Native.Nat.{◌*◌, ◌-◌}
 use Rattle.bucket.specs.Digits.{unpacked}
 use Rattle.bucket.specs.Lists.{part}
-use Rattle.session.proofs.PlaceLaws.{held-placed, place-placed, table-short}
-use Rattle.session.proofs.AskLaws.{item_read, items_inside, items_past, asked-few, Asking, asking-start, asking_passes, asking-stops, asking-next, asking-end}
-use borrow.Author.Rules.{rules}
+use Rattle.session.proofs.AskLaws.{Asking}
 use Rattle.session.proofs.asking.ask_all.Given as goal
 
 abbrev pub invariant-loop-i : goal.invariant-loop-i

@@ -1,7 +1,6 @@
 -- `checking::checksum` meets its contract: 64 zero bytes are the sum of nothing; the two sums are added, and bytes are known by the number that they make.
 -- Assumes nothing.
 use native.Mathlib.Omega.{arith}
-use borrow.Author.Rules.{rules}
 use Rattle.filter.proofs.TableLaws.{hashes-length, table-count}
 use Rattle.session.specs.Moves.{check_of}
 use Rattle.session.proofs.XorSumLaws.{sum-start, sum-bytes}

@@ -1,11 +1,6 @@
-use mathlib.Core.Path.{◌≡◌}
-use Prim.Native.Nat.{◌-◌}
 use native.Mathlib.Omega.{arith}
-use lib.ListN.{length}
-use borrow.Author.Rules.{rules}
-use Rattle.filter.specs.Table.{hashes_of}
 use Rattle.filter.proofs.TableLaws.{hashes-length}
-use Rattle.session.proofs.XorSumLaws.{Added, added_start, added_next, added_end}
+use Rattle.session.proofs.XorSumLaws.{added_start, added_next, added_end}
 use Rattle.session.proofs.checking.xor_all.Goals as goal
 
 pub loop-i-init : goal.loop-i-init

@@ -2,12 +2,9 @@
 -- Assumes nothing.
 use mathlib.Core.Path.{◌≡◌}
 use Prim.Native.Nat.{◌-◌}
-use native.Mathlib.Omega.{arith}
 use lib.ListN.{length}
-use borrow.Author.Rules.{rules}
 use Rattle.filter.specs.Table.{hashes_of}
-use Rattle.filter.proofs.TableLaws.{hashes-length}
-use Rattle.session.proofs.XorSumLaws.{Added, added_start, added_next, added_end}
+use Rattle.session.proofs.XorSumLaws.{Added}
 use Rattle.session.proofs.checking.xor_all.Given as goal
 
 abbrev pub invariant-loop-i : goal.invariant-loop-i

@@ -1,6 +1,6 @@
-use Prim.Native.Nat.{◌+◌, ◌-◌}
+use Prim.Native.Nat.{◌+◌}
 use native.Mathlib.Omega.{arith}
-use Rattle.session.proofs.XorSumLaws.{Mixing, mixing_start, mixing_next, mixing_end}
+use Rattle.session.proofs.XorSumLaws.{mixing_start, mixing_next, mixing_end}
 use Rattle.session.proofs.checking.xor_into.Goals as goal
 
 pub loop-k-init : goal.loop-k-init

@@ -1,8 +1,7 @@
 -- `checking::xor_into` meets its contract: the bytes before k are XORed with those of the slice, the others kept. The measure is what is left of the
 -- 64. Assumes nothing.
-use Prim.Native.Nat.{◌+◌, ◌-◌}
-use native.Mathlib.Omega.{arith}
-use Rattle.session.proofs.XorSumLaws.{Mixing, mixing_start, mixing_next, mixing_end}
+use Prim.Native.Nat.{◌-◌}
+use Rattle.session.proofs.XorSumLaws.{Mixing}
 use Rattle.session.proofs.checking.xor_into.Given as goal
 
 abbrev pub invariant-loop-k : goal.invariant-loop-k

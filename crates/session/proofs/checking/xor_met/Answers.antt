@@ -1,12 +1,7 @@
-use mathlib.Core.Path.{◌≡◌, sym, ◌∙◌}
-use mathlib.Core.Logic.{⊎_elim}
-use Prim.Native.Nat.{◌-◌, ◌≤◌}
+use mathlib.Core.Path.{sym, ◌∙◌}
 use native.Mathlib.Omega.{arith}
-use lib.ListN.{length}
-use borrow.Author.Rules.{rules}
-use Rattle.filter.specs.Table.{hashes_of}
 use Rattle.filter.proofs.TableLaws.{hashes-length}
-use Rattle.session.proofs.XorSumLaws.{Met, met_start, met_next, met_other, met-end}
+use Rattle.session.proofs.XorSumLaws.{met_start, met_next, met_other, met-end}
 use Rattle.session.proofs.checking.xor_met.Goals as goal
 use Rattle.session.proofs.checking.xor_met.Goals.{then-is_met, else-is_met}
 

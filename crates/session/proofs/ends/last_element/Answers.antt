@@ -1,13 +1,11 @@
 -- `session::ends::last_element` meets its contract: each return leaves what the step on an ELEMENT does. Assumes nothing.
 use Rattle.std.proofs.Common.{cond}
 use mathlib.Core.Path.{◌≡◌, sym, ◌∙◌}
-use mathlib.Core.Logic.{⊎_elim}
 use Prim.Native.Nat.{◌*◌}
 use native.Mathlib.Omega.{arith}
 use lib.Bits.{bit_xor}
 use lib.ListN.{take}
 use lib.Seq.{length-take-le}
-use borrow.Author.Rules.{rules}
 use Rattle.bucket.specs.Digits.{joined}
 use Rattle.bucket.proofs.TestLaws.{cond-made, cond-kept}
 use Rattle.ledger.specs.Calls.{given}

@@ -3,7 +3,6 @@ use mathlib.Core.Path.{sym, ◌∙◌}
 use Prim.Native.Nat.{◌*◌}
 use native.Mathlib.Omega.{arith}
 use lib.Seq.{length-take-le}
-use borrow.Author.Rules.{rules}
 use Rattle.ledger.specs.Calls.{given}
 use Rattle.session.proofs.ElementLaws.{element-wanted, last_now, says_now, element_unknown, element-quiet}
 use Rattle.session.proofs.ends.on_element.Goals as goal

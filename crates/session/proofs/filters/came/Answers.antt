@@ -1,7 +1,6 @@
 -- `filters::came` meets its contract: 10 where the table's elements and theirs pass 4,096. Assumes nothing.
 use Prim.Native.Nat.{◌+◌}
 use native.Mathlib.Omega.{arith}
-use borrow.Author.Rules.{rules}
 use borrow.Author.Tests.{lt-ltb, le-ltb}
 use Rattle.session.proofs.filters.came.Goals as goal
 

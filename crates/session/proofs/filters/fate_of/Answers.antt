@@ -7,7 +7,6 @@ use Rattle.filter.specs.Answers.{answer_of}
 use Rattle.session.specs.declared.filters.Fate.{Fate}
 use Rattle.session.specs.Turns.{fate_of}
 use Rattle.session.specs.Ready.{fated}
-use borrow.Author.Rules.{rules}
 use Rattle.session.proofs.filters.fate_of.Goals as goal
 
 abbrev told : ℕ → ℕ → Reading → Fate

@@ -1,11 +1,10 @@
 use mathlib.Core.Path.{sym}
-use Prim.Native.Nat.{◌/◌, ◌-◌, ◌<◌}
+use Prim.Native.Nat.{◌/◌, ◌<◌}
 use native.Mathlib.Omega.{arith}
 use lib.ListN.{length, take, length-take}
 use lib.Seq.{get_or-take}
-use borrow.Author.Rules.{rules}
 use Rattle.session.proofs.PlaceLaws.{table-short}
-use Rattle.session.proofs.OfferAllLaws.{Offering, offering_start, offered-place, offering_next, offering_end}
+use Rattle.session.proofs.OfferAllLaws.{offering_start, offered-place, offering_next, offering_end}
 use Rattle.session.proofs.filters.offer_all.Goals as goal
 use Rattle.session.proofs.filters.offer_all.Goals.{After-id_position-p}
 

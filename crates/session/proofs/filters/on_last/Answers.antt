@@ -9,7 +9,6 @@ use Rattle.ledger.proofs.FilterRoomLaws.{next_in_range}
 use Rattle.form.proofs.SendingLaws.{own_filter_there}
 use Rattle.ledger.specs.declared.numbers.Numbers.{Numbers}
 use Rattle.session.proofs.LastTurns.{last_untimely, last_misplaced, last_whole, last_stops, opens-ready, last-opens, swaps-ready, last-swaps}
-use borrow.Author.Rules.{rules}
 use Rattle.std.proofs.Common.{ap}
 use mathlib.Core.Bool.{not}
 use Rattle.session.proofs.filters.on_last.Goals as goal

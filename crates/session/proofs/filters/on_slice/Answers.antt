@@ -8,7 +8,6 @@ use Rattle.ledger.specs.declared.numbers.Answer.{Answer}
 use Rattle.ledger.specs.Calls.{answered}
 use Rattle.session.specs.Turns.{slice_turn'}
 use Rattle.session.proofs.LayTurns.{laid_by, slice_untimely, slice_misplaced, slice-laid}
-use borrow.Author.Rules.{rules}
 use mathlib.Core.Bool.{not}
 use Rattle.session.proofs.filters.on_slice.Goals as goal
 

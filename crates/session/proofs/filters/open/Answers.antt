@@ -6,7 +6,6 @@ use native.Mathlib.Omega.{arith}
 use lib.Bits.{bit_xor}
 use lib.ListN.{length, take}
 use lib.Seq.{length-take-le}
-use borrow.Author.Rules.{rules}
 use Rattle.bucket.specs.Lists.{over, part}
 use Rattle.filter.specs.Table.{hashes_of}
 use Rattle.message.specs.Layout.{done}

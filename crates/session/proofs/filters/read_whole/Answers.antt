@@ -4,7 +4,6 @@ use native.Mathlib.Omega.{arith}
 use Rattle.filter.proofs.TableLaws.{hashes-length, table-count}
 use Rattle.session.proofs.LayTurns.{laid_by}
 use Rattle.session.proofs.LastTurns.{ends-kept, ends-wiped}
-use borrow.Author.Rules.{rules}
 use Rattle.session.proofs.filters.read_whole.Goals as goal
 
 pub fate_of-f-requires : goal.fate_of-f-requires

@@ -13,7 +13,6 @@ use Rattle.session.specs.Ready.{Sent}
 use Rattle.session.specs.Turns.{hashes_at}
 use Rattle.ledger.proofs.RoomLaws.{inquiries_room, offers-room}
 use Rattle.session.proofs.OpenTurns.{sent-first, sent_then, offered-few, gathered-back}
-use borrow.Author.Rules.{rules}
 use Rattle.session.proofs.filters.tell.Goals as goal
 use Rattle.session.proofs.filters.tell.Goals.{After-hashes-3-1, After-send_offers, After-slice_known-6-1}
 

@@ -3,7 +3,6 @@ use mathlib.Core.Path.{refl, sym, ap, ◌∙◌}
 use Prim.Native.Nat.{ℕ, ◌*◌}
 use native.Mathlib.Omega.{arith}
 use lib.Seq.{length-take-le}
-use borrow.Author.Rules.{rules}
 use Rattle.bucket.specs.Lists.{part}
 use Rattle.bucket.proofs.TestLaws.{test_refused, test_granted}
 use Rattle.bucket.proofs.PackedLaws.{unpacked-length}

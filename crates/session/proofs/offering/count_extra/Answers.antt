@@ -1,13 +1,11 @@
 use mathlib.Core.Bool.{not}
 use mathlib.Core.Path.{ap, sym, ◌∙◌}
-use mathlib.Core.Logic.{⊎_elim}
-use Prim.Native.Nat.{◌*◌, ◌-◌, ◌<◌}
+use Prim.Native.Nat.{◌*◌, ◌<◌}
 use native.Mathlib.Omega.{arith}
 use lib.ListN.{length, take}
 use Rattle.bucket.proofs.TestLaws.{test_refused, test_granted}
 use Rattle.filter.specs.Table.{first_eight, ids_of}
-use Rattle.session.proofs.GatheredLaws.{first-id, firsts-ids, Counting, counting-start, counting_yes, counting_no, counted}
-use borrow.Author.Rules.{rules}
+use Rattle.session.proofs.GatheredLaws.{first-id, firsts-ids, counting-start, counting_yes, counting_no, counted}
 use Rattle.session.proofs.offering.count_extra.Goals as goal
 use Rattle.session.proofs.offering.count_extra.Goals.{then-not-holds_id, else-not-holds_id}
 

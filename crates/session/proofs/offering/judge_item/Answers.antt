@@ -12,7 +12,6 @@ use Rattle.bucket.proofs.TestLaws.{and_fails, and_holds, test_refused, test_gran
 use Rattle.filter.specs.Table.{holds}
 use Rattle.session.proofs.PlaceLaws.{place-placed}
 use Rattle.session.proofs.OfferLaws.{item_judged, found_inside, found-hash}
-use borrow.Author.Rules.{rules}
 use Rattle.session.proofs.offering.judge_item.Goals as goal
 
 pub is_hash_at-requires : goal.is_hash_at-requires

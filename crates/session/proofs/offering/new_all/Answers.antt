@@ -1,7 +1,6 @@
 use mathlib.Core.Path.{◌≡◌, refl, sym, ap, ◌∙◌}
-use mathlib.Core.Logic.{⊎_elim}
 use mathlib.Core.List.{List}
-use Prim.Native.Nat.{ℕ, ◌+◌, ◌*◌, ◌-◌, ◌≤◌, ◌<◌}
+use Prim.Native.Nat.{ℕ, ◌+◌, ◌*◌, ◌≤◌, ◌<◌}
 use native.Mathlib.Omega.{arith}
 use lib.ListN.{length, get_or, take, length-take}
 use lib.Seq.{length-take-le}
@@ -12,8 +11,7 @@ use Rattle.filter.specs.Table.{first_eight, ids_of, position}
 use Rattle.filter.proofs.TableLaws.{part-short, first_eight_part}
 use Rattle.session.proofs.PlaceLaws.{table-short, bytes_back}
 use Rattle.session.proofs.AskLaws.{item_read, items_inside, items_past}
-use Rattle.session.proofs.OfferLaws.{Offering, offering_start, offering_known, offering_bad, offering_new, offering_end}
-use borrow.Author.Rules.{rules}
+use Rattle.session.proofs.OfferLaws.{offering_start, offering_known, offering_bad, offering_new, offering_end}
 use Rattle.session.proofs.offering.new_all.Goals as goal
 use Rattle.session.proofs.offering.new_all.Goals.{in-New, in-Known}
 use Rattle.session.proofs.offering.new_all.Goals.{In-loop-i}

@@ -1,12 +1,11 @@
 use mathlib.Core.Path.{sym, ap, ◌∙◌}
-use Prim.Native.Nat.{◌+◌, ◌*◌, ◌-◌}
+use Prim.Native.Nat.{◌+◌, ◌*◌}
 use native.Mathlib.Omega.{arith}
 use lib.ListN.{take}
 use Rattle.filter.specs.Table.{first_eight, hashes_of, ids_of, position}
 use Rattle.filter.proofs.TableLaws.{first_eight_part}
 use Rattle.session.proofs.PlaceLaws.{bytes_back}
-use Rattle.session.proofs.GatheredLaws.{first-hash, firsts-count, Putting, putting_start, putting_next, putting_end}
-use borrow.Author.Rules.{rules}
+use Rattle.session.proofs.GatheredLaws.{first-hash, firsts-count, putting_start, putting_next, putting_end}
 use Rattle.session.proofs.offering.store_all.Goals as goal
 
 pub loop-i-init : goal.loop-i-init

@@ -5,7 +5,6 @@ use Prim.Native.Nat.{ℕ}
 use native.Mathlib.Omega.{arith}
 use Rattle.bucket.specs.Lists.{over}
 use Rattle.session.proofs.PlaceLaws.{first-placed, second_placed, bytes-first, bytes_second}
-use borrow.Author.Rules.{rules}
 use Rattle.session.proofs.places.copy_hash.Goals as goal
 
 pub copy-requires : goal.copy-requires

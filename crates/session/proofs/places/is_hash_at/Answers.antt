@@ -6,7 +6,6 @@ use lib.Dec.{eqb}
 use Rattle.bucket.specs.Digits.{joined}
 use Rattle.bucket.specs.Lists.{part}
 use Rattle.session.proofs.PlaceLaws.{first-placed, second_placed, hash-first, hash_second}
-use borrow.Author.Rules.{rules}
 use Rattle.session.proofs.places.is_hash_at.Goals as goal
 
 pub same_hash-requires : goal.same_hash-requires

@@ -1,7 +1,6 @@
 -- `session::places::is_held` meets its contract. Assumes nothing.
 use mathlib.Core.Path.{◌∙◌}
 use Rattle.session.proofs.PlaceLaws.{held_first, held_second, held_none}
-use borrow.Author.Rules.{rules}
 use Rattle.session.proofs.places.is_held.Goals as goal
 
 pub returns-then-p-lt-RECORDS : goal.returns-then-p-lt-RECORDS

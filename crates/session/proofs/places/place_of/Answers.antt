@@ -1,12 +1,10 @@
 -- `session::places::place_of` meets its contract: the search in the table decides first, then the one among the demanded. Assumes nothing.
 use mathlib.Core.Path.{◌≡◌}
-use mathlib.Core.Logic.{⊎_elim}
 use mathlib.Core.Bool.{false}
 use native.Mathlib.Omega.{arith}
 use Rattle.filter.specs.Table.{first_eight, ids_of, holds}
 use Rattle.filter.proofs.TableLaws.{hashes-length}
 use Rattle.session.proofs.PlaceLaws.{found, not_found, not_found-past, place-first, place_second, place_none}
-use borrow.Author.Rules.{rules}
 use Rattle.session.proofs.places.place_of.Goals as goal
 use Rattle.session.proofs.places.place_of.Goals.{then-p-count+else-element_id-id, else-p-count}
 use Rattle.session.proofs.places.place_of.Goals.{Joined-p-count}

@@ -1,7 +1,6 @@
 -- `session::places::place_of_hash` meets its contract. Assumes nothing.
 use mathlib.Core.Path.{sym, ◌∙◌}
 use Rattle.session.proofs.PlaceLaws.{place-placed, hash-placed, hash_other, hash-nowhere}
-use borrow.Author.Rules.{rules}
 use Rattle.session.proofs.places.place_of_hash.Goals as goal
 
 pub is_hash_at-requires : goal.is_hash_at-requires

@@ -1,9 +1,6 @@
 use mathlib.Core.Path.{◌≡◌, refl}
-use Prim.Native.Nat.{◌-◌, ◌≤◌}
 use native.Mathlib.Omega.{arith}
-use Rattle.bucket.specs.Lists.{part}
 use Rattle.session.proofs.PlaceLaws.{same_next, same_ends, same-all}
-use borrow.Author.Rules.{rules}
 use Rattle.session.proofs.places.same_hash.Goals as goal
 
 pub loop-k-init : goal.loop-k-init

@@ -1,11 +1,8 @@
 -- `session::places::same_hash` meets its contract. The invariant: the first k bytes are the same. The measure is what is left of the 64.
 -- Assumes nothing.
-use mathlib.Core.Path.{◌≡◌, refl}
+use mathlib.Core.Path.{◌≡◌}
 use Prim.Native.Nat.{◌-◌, ◌≤◌}
-use native.Mathlib.Omega.{arith}
 use Rattle.bucket.specs.Lists.{part}
-use Rattle.session.proofs.PlaceLaws.{same_next, same_ends, same-all}
-use borrow.Author.Rules.{rules}
 use Rattle.session.proofs.places.same_hash.Given as goal
 
 abbrev pub invariant-loop-k : goal.invariant-loop-k

@@ -1,7 +1,6 @@
 -- `places::unmet_place` meets its contract: each test that fails makes the place none. Assumes nothing.
 use native.Mathlib.Omega.{arith}
 use mathlib.Core.Path.{sym, ap, ◌∙◌}
-use borrow.Author.Rules.{rules}
 use Rattle.filter.proofs.TableLaws.{table-count, table-whole}
 use Rattle.session.specs.Moves.{unmet_at}
 use Rattle.session.proofs.PlaceLaws.{unmet-inside, unmet_outside, unmet-met, unmet-there}

@@ -1,6 +1,5 @@
 -- `sending::send_demands` meets its contract: given its room, the writer writes. Assumes nothing.
 use mathlib.Core.Path.{◌∙◌}
-use borrow.Author.Rules.{rules}
 use Rattle.filter.specs.Table.{hashes_of}
 use Rattle.message.specs.Writing.{demands_of}
 use Rattle.ledger.proofs.SendLaws.{sent_to, not_refused, hashes-write}

@@ -1,7 +1,6 @@
 -- `sending::send_done` meets its contract: given its room, the writer writes. Assumes nothing.
 use mathlib.Core.Path.{◌∙◌}
 use mathlib.Core.List.{[], ◌∷◌}
-use borrow.Author.Rules.{rules}
 use lib.ListN.{take}
 use Rattle.bucket.specs.Digits.{joined}
 use Rattle.message.specs.Layout.{done}

@@ -1,6 +1,5 @@
 -- `sending::send_inquiries` meets its contract: given its room, the writer writes. Assumes nothing.
 use mathlib.Core.Path.{◌∙◌}
-use borrow.Author.Rules.{rules}
 use Rattle.message.specs.Writing.{inquiries_of}
 use Rattle.ledger.proofs.SendLaws.{sent_to, not_refused, inquiry_writes}
 use Rattle.session.proofs.sending.send_inquiries.Goals as goal

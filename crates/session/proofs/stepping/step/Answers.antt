@@ -6,7 +6,6 @@ use mathlib.Core.List.{[], ◌∷◌}
 use types.Run.{OneOf, miss}
 use borrow.Enum.Refused.{opened}
 use denote.Enum.Declared.{tag_of}
-use borrow.Author.Rules.{rules}
 use borrow.Author.Tests.{ne_eqb}
 use Rattle.bucket.specs.Columns.{columns}
 use Rattle.filter.specs.Table.{first_eight}

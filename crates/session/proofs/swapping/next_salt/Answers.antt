@@ -1,5 +1,4 @@
 -- `swapping::next_salt` meets its contract: it makes the definition's test. Assumes nothing.
-use borrow.Author.Rules.{rules}
 use borrow.Author.Tests.{eq-eqb, ne_eqb}
 use Rattle.ledger.specs.Session.{next_salt}
 use Rattle.session.proofs.swapping.next_salt.Goals as goal

@@ -1,6 +1,5 @@
 -- `swapping::next_size` meets its contract: the smaller of twice the size and 4,096. Assumes nothing.
 use native.Mathlib.Omega.{arith}
-use borrow.Author.Rules.{rules}
 use borrow.Author.Tests.{ltb-true, ltb-false}
 use Rattle.ledger.specs.Session.{next_size}
 use Rattle.session.proofs.swapping.next_size.Goals as goal

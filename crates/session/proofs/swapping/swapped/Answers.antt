@@ -1,5 +1,4 @@
 -- `swapping::swapped` meets its contract: the next size, the next salt, and one swap more. Assumes nothing.
-use borrow.Author.Rules.{rules}
 use Rattle.session.proofs.swapping.swapped.Goals as goal
 
 pub returns : goal.returns

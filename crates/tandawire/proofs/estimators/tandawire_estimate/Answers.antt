@@ -1,5 +1,4 @@
 -- `estimators::tandawire_estimate` meets its contract, which is that of `estimator::estimate` with its answer in numbers. Assumes nothing.
-use borrow.Author.Rules.{rules}
 use Rattle.tandawire.proofs.estimators.tandawire_estimate.Goals as goal
 
 pub returns : goal.returns

@@ -1,5 +1,4 @@
 -- `estimators::tandawire_estimator_build` meets its contract, which is that of `estimator::build` with the refusal's number. Assumes nothing.
-use borrow.Author.Rules.{rules}
 use Rattle.tandawire.proofs.estimators.tandawire_estimator_build.Goals as goal
 
 pub returns : goal.returns

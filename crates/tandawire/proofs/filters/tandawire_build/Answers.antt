@@ -1,5 +1,4 @@
 -- `filters::tandawire_build` meets its contract, which is that of `building::build` with the refusal's number. Assumes nothing.
-use borrow.Author.Rules.{rules}
 use Rattle.tandawire.proofs.filters.tandawire_build.Goals as goal
 
 pub returns : goal.returns

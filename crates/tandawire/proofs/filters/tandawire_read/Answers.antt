@@ -1,5 +1,4 @@
 -- `filters::tandawire_read` meets its contract, which is that of `reading::read` with its answer in numbers. Assumes nothing.
-use borrow.Author.Rules.{rules}
 use Rattle.tandawire.proofs.filters.tandawire_read.Goals as goal
 
 pub returns : goal.returns

@@ -1,7 +1,6 @@
 -- `messages::tandawire_filter_write` meets its contract, which is that of `filters::filter` with its answer as numbers. Assumes nothing.
 use mathlib.Core.Path.{ap}
 use Rattle.message.specs.Writing.{write_numbers}
-use borrow.Author.Rules.{rules}
 use Rattle.tandawire.proofs.messages.tandawire_filter_write.Goals as goal
 
 pub returns : goal.returns

@@ -1,5 +1,4 @@
 -- `messages::tandawire_message_read` meets its contract, which is that of `reading::read` with its answer as numbers. Assumes nothing.
-use borrow.Author.Rules.{rules}
 use Rattle.tandawire.proofs.messages.tandawire_message_read.Goals as goal
 
 pub returns : goal.returns
