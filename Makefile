@@ -41,7 +41,7 @@ target/bin/differ: $(call sources,bucket filter differ) crates/differ/stdin
 
 target/staticlib/lib%.a: crates.txt
 	@command -v rt >/dev/null || { echo "make: the Rattle toolchain (rt) is not on the PATH" >&2; exit 1; }
-	@echo "proving $* and the crates below it: some ten minutes from nothing, seconds where rt kept its work"
+	@echo "proving $* and the crates below it: some minutes from nothing, less than one where rt kept its work"
 	@mkdir -p target/staticlib
 	@cd crates/$* && rt lib >../../target/staticlib/$*.log 2>&1 || { tail -n 40 ../../target/staticlib/$*.log >&2; exit 1; }
 	@cp crates/$*/out/lib$*.a $@

@@ -1,6 +1,6 @@
 -- The two calls of this layer (document 01, "Subtraction and reading", "Refusal numbers"): what they answer, and what every lent slice holds after them.
 --
---   inRange size salt      "A filter has 37 to 4,096 buckets", "Salt is 0 to 63"
+--   in_range size salt     "A filter has 37 to 4,096 buckets", "Salt is 0 to 63"
 --   are_counts n cs         the first n counts, or as many as there are, lie in 0 to 2^32 − 1
 --   has_room n c            each column has at least n places
 --   filled n f c           the columns c with f in their first n buckets

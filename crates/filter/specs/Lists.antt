@@ -6,7 +6,7 @@
 --   minus t l       the numbers of t that are not in l
 --   bisect ..       the position that a binary search ends at
 --
--- Laws (proofs/OrderLaws, SelectLaws, BisectLaws): ascending-distinct, distinct_true; select-yes, select-no; bisect-least.
+-- Laws (proofs/OrderLaws, SelectLaws, BisectLaws): ascending-distinct, distinct_true; select_yes, select_no; bisect-least.
 -- Assumes nothing.
 use Rattle.std.specs.Prelude.{Bool, true, not, ◌&&◌, cond, List, [], ◌∷◌, ℕ, zero, suc, ◌+◌, ◌/◌, ltb}
 use Rattle.bucket.specs.Lists.{elem}

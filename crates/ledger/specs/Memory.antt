@@ -5,7 +5,7 @@
 --   marked p hs ms    the hashes whose mark passes
 --   decode, encode    the ledger of a memory, and the memory of a ledger
 --
--- Laws (proofs/MemoryLaws): decode-encode, encode-decode, encode-one.
+-- Laws (proofs/MemoryLaws): decode-encode, encode-decode, encode_one.
 -- Assumes nothing.
 use Rattle.std.specs.Prelude.{Bool, cond, List, [], ◌∷◌, ◌++◌, map, ℕ, ◌+◌, ◌*◌, ◌/◌, ◌%◌, eqb, ltb}
 use Rattle.bucket.specs.Lists.{elem}

@@ -12,6 +12,7 @@ pub mod ItemLaws
 pub mod WalkLaws
 pub mod BackLaws
 pub mod ThroughLaws
+pub mod ReaderLaws
 pub mod PieceLaws
 pub mod PutLaws
 pub mod CutLaws

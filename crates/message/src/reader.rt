@@ -1,5 +1,5 @@
 // A small reader over lent bytes with its position (document 01, "Choosing the form by place": "One buffer may hold several messages end to end").
-// `next` answers what stands there with the reader behind it. `message_at` and `walk` take a plain slice, so that their callers need no proof by hand.
+// `next` answers what stands there with the reader behind it. `message_at` and `walk` take a plain slice.
 ghost use Rattle.std.specs.Prelude.{◌≡◌};
 ghost use Rattle.message.specs.Walking.{walk_at, behind, is_found, ended, whole_of, reader_at, next_of};
 
