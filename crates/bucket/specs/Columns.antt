@@ -6,7 +6,7 @@
 --   is_open c i d        bucket i is inside all three columns, and its count and d are below 2^61 either way
 --
 -- Counts are lent as signed numbers of 64 bits: the bound keeps every sum exact. A filter's counts stay far below it.
--- Laws (proofs/ColumnLaws): is_open_inside, is_open_small; place_same, place_other, place_lengths.
+-- Laws (proofs/ColumnLaws): is_open_inside, is_open_small; place_same, place_other, place-lengths.
 -- Assumes nothing.
 use Rattle.std.specs.Prelude.{Bool, ◌&&◌, List, ℕ, suc, ◌^◌, ltb, ℤ, pos, negsuc, length, get_or, set}
 use Rattle.bucket.specs.Bucket.{Bucket, bucket}
