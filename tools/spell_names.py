@@ -4,8 +4,8 @@
 usage: tools/spell_names.py [--say]      --say prints the names and changes nothing
 
 A word is in snake case, a type in camel case, a constant in capitals. A dash stays only between two words, as in `elem-take`; what says which lemma of
-that word it is, is added with an underscore, as in `elem_last`. A lemma that would have the name of its word gets `_lem`. Names of src/, exported C names, strings, fields that the check makes, and names that
-a proof gives inside itself stay as they are. Where two names would fall together the script stops and says which.
+that word it is, is added with an underscore, as in `elem_last`. A lemma that would have the name of its word gets `_lem`. Names of src/, exported C names, strings, and
+names that the check makes stay as they are. Where two names would fall together the script stops and says which.
 """
 
 import collections
@@ -23,12 +23,16 @@ BY_HAND = {
     "Layout-of": "LayoutOf",
     "isZeroℤ": "is_zero_ℤ",
     "in-table": "held_in_table",
+    "hashes-of": "hashes_of_ours",
+    "filter-short-columns": "filter_short_columns",
     "in-a": "in_a_lem",
     "ids-in": "ids_in_lem",
     "too_many": "too_many_lem",
 }
 SEPARATORS = "\\s(){}\\[\\].,;:→⌜⌝«»`\"|"
 TOKEN = re.compile(f"[^{SEPARATORS}]+")
+# What follows the name of a function's theorem, of an answer, an invariant or a measure: those names are the check's.
+ANSWER = re.compile(r"(goal|tie)\.[a-z]|tie\.Need-|\{M : Type 1\} → ")
 NAMES = re.compile(f"^(\\s*)((?:abbrev |unfoldable |pub )*)((?:[^{SEPARATORS}]+ )+): ")
 BLOCK = re.compile(r"^(\s*)(?:abbrev |unfoldable |pub )*(record|data) (\S+)")
 IN_MODULE = re.compile(f"[.{SEPARATORS}][A-Z][^{SEPARATORS}]*\\.$")
@@ -72,6 +76,17 @@ def declared(top):
     return kinds
 
 
+def inner(top, known):
+    """The names that are declared further in, in a `module _` or a `where`, or in the proof of a function."""
+    names = set()
+    for path in sorted(top.glob("crates/*/specs/**/*.antt")) + sorted(top.glob("crates/*/proofs/**/*.antt")):
+        for line in path.read_text(encoding="utf-8").split("\n"):
+            match = None if line.strip().startswith(NOT_NAMES) else NAMES.match(line)
+            if match and not ANSWER.match(line[match.end() :]):
+                names.update(name for name in match.group(3).split() if re.match(r"[A-Za-z]", name) and name not in known)
+    return names
+
+
 def snake(word):
     if re.fullmatch(r"[A-Z0-9_]+", word):
         return word
@@ -102,6 +117,11 @@ def main(argv):
             new = spelled(name, words)
             if new != name:
                 new_of[name] = new
+    for name in inner(top, kinds):
+        new = spelled(name, words)
+        if new != name:
+            kinds[name].add("lemma")
+            new_of[name] = new
     came_from = collections.defaultdict(set)
     for name in kinds:
         came_from[new_of.get(name, name)].add(name)

@@ -336,8 +336,8 @@ module _ {n : ℕ} {heads links seen : List ℕ} (v : ℕ) (room : n < 4096) (c 
       unfolding Placed
       link = subst (Placed n v heads links seen) e found
 
-      pub enrolled-link : Enrolled n v seen true heads (cleared n (set links at (n + 1))) (set seen n v)
-      enrolled-link =
+      pub enrolled_link : Enrolled n v seen true heads (cleared n (set links at (n + 1))) (set seen n v)
+      enrolled_link =
           let s = link.1 in
           let inside : at < length links = omega (arith, s.inside, c.links-len) in
           let kept : (i : ℕ) → 0 < get_or links i 0 → get_or (set links at (n + 1)) i 0 ≡ get_or links i 0 =

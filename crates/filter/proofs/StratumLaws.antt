@@ -94,14 +94,14 @@ module _ (R : Rule) (t s : List ℕ) (dt : Distinct t) (ds : Distinct s) where
       (distinct-same (ours_of l) (minus t s) (distinct-ours l dl) (distinct-minus t s dt)
       (λ a. e.ours_are a ∙ and_not (elem a (minus t s)) (e.core (ours a)) (λ m. taken (ours a) (ours_in_lem a m))))
       (distinct-same (theirs_of l) (minus s t) (distinct-theirs l dl) (distinct-minus s t ds)
-      (λ a. e.theirs_are a ∙ and_not (elem a (minus s t)) (e.core (theirs a)) (λ m. taken (theirs a) (theirs-in a m))))
+      (λ a. e.theirs_are a ∙ and_not (elem a (minus s t)) (e.core (theirs a)) (λ m. taken (theirs a) (theirs_in_lem a m))))
       ∙ sym (differing-length t s)
     where
       ours_in_lem : (a : ℕ) → elem a (minus t s) ≡ true → Memᴰ (ours a) (differing t s)
       ours_in_lem a m = ours_mem a (differing t s) (rw differing-ours (elem_mem a (minus t s) m))
 
-      theirs-in : (a : ℕ) → elem a (minus s t) ≡ true → Memᴰ (theirs a) (differing t s)
-      theirs-in a m = theirs_mem a (differing t s) (rw differing-theirs (elem_mem a (minus s t) m))
+      theirs_in_lem : (a : ℕ) → elem a (minus s t) ≡ true → Memᴰ (theirs a) (differing t s)
+      theirs_in_lem a m = theirs_mem a (differing t s) (rw differing-theirs (elem_mem a (minus s t) m))
 
       taken : (x : Item) → Memᴰ x (differing t s) → e.core x ≡ false
       taken x m = go (e.core x) refl

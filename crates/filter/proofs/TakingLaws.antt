@@ -54,13 +54,13 @@ module _ (k size x h : ℕ) (s : ℤ) (c₀ : Columns) where
       found : r ≡ pad 4 (places k size h)
       found = places-given k size h tab r right sound.few e
 
-      pub taking-below : j < k → get_or r j 0 < size
-      taking-below l = (PlaceLaws.place crc_next k size h 4 r j found (omega (arith, l, sound.least, sound.few))).below
+      pub taking_below : j < k → get_or r j 0 < size
+      taking_below l = (PlaceLaws.place crc_next k size h 4 r j found (omega (arith, l, sound.least, sound.few))).below
 
-      pub taking-next : (bits' : List ℕ) (t' : ℕ) (c' : Columns) → j < k → nat_abs s ≤ 1
+      pub taking_next : (bits' : List ℕ) (t' : ℕ) (c' : Columns) → j < k → nat_abs s ≤ 1
           → c' ≡ place c (get_or r j 0) (view c (get_or r j 0) ⊕ neg (bucket x h s)) → Marks (shows (rule k size 0) (view c')) bits' t'
           → Taking k size x h s c₀ c' bits' t' (j + 1)
-      taking-next bits' t' c' l one q m = record {
+      taking_next bits' t' c' l one q m = record {
         taken = added_next k size h (neg (bucket x h s)) c₀ c j sound w g.taken r (omega (arith, one, abs_neg (bucket x h s))) found l c' q;
         marks = m;
       }

@@ -67,15 +67,15 @@ module _ (size salt : ℕ) (t marks out : List ℕ) {a : Answer} where
     sender-out_of_range h e = rw (table, h, e)
 
     module _ (range : in_range size salt ≡ true) where
-      pub sender-no-room : ltb (length marks) 8192 || ltb (length out) 295008 ≡ true → a ≡ answered 2 0 0 no_session
+      pub sender_no_room : ltb (length marks) 8192 || ltb (length out) 295008 ≡ true → a ≡ answered 2 0 0 no_session
           → starting a marks out ≡ start_sender first_eight size salt t marks out
       unfolding start_sender
-      sender-no-room h e = rw (table, range, rooms_tested 8192 295008 (length marks) (length out) h, e)
+      sender_no_room h e = rw (table, range, rooms_tested 8192 295008 (length marks) (length out) h, e)
 
-      pub sender-starts : ltb (length marks) 8192 || ltb (length out) 295008 ≡ false → {N : Numbers} {n sent : ℕ} {marks' out' : List ℕ}
+      pub sender_starts : ltb (length marks) 8192 || ltb (length out) 295008 ≡ false → {N : Numbers} {n sent : ℕ} {marks' out' : List ℕ}
           → N ≡ numbered 3 1 size salt 0 0 0 0 0 → a ≡ answered 0 sent 0 N → n ≡ length (hashes_of t) → marks' ≡ over 0 (replicate n 0) marks
           → sent ≡ length (layouts (own_filter (ids_of first_eight t) size salt)) → out' ≡ over 0 (layouts (own_filter (ids_of first_eight t) size salt)) out
           → starting a marks' out' ≡ start_sender first_eight size salt t marks out
       unfolding start_sender
-      sender-starts h en ea el em es eo =
+      sender_starts h en ea el em es eo =
           rw (table, range, rooms_tested 8192 295008 (length marks) (length out) h, ea, en, em, el, eo, es, ids-same t)

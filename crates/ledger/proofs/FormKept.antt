@@ -143,11 +143,11 @@ module _ (derive : ℕ → ℕ) (t : List ℕ) where
   unfolding act tests
   kept-act g h s c f gm ad fs =
       by_kind (λ (o : Outcome). Form derive t o.session) c _ _
-      on-slice
+      on_slice_lem
       (λ k. form-change h s c (change derive t h s c) f (lawful derive t h s c k f ad fs))
     where
-      on-slice : (size offset salt width : ℕ) (ids hashes counts : List ℕ) → c ≡ slice size offset salt width ids hashes counts → Form derive t (on_slice derive t s c size offset salt width).session
-      on-slice size offset salt width ids hashes counts e =
+      on_slice_lem : (size offset salt width : ℕ) (ids hashes counts : List ℕ) → c ≡ slice size offset salt width ids hashes counts → Form derive t (on_slice derive t s c size offset salt width).session
+      on_slice_lem size offset salt width ids hashes counts e =
           subst (λ (d : Content). Good d → admitted s d ≡ true → Passed (tests derive t h s d) → Form derive t (on_slice derive t s d size offset salt width).session)
           (sym e) slice_kept gm ad fs
         where

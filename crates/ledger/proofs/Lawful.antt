@@ -118,7 +118,7 @@ module _ (derive : ℕ → ℕ) (t : List ℕ) where
     unfolding change allowed new
     lawful_offer hs later right few =
         record {
-          books = books-demanding derive t ys L (news-apart (held derive t L ++ L.demanded) hs) tests-are.1 f.books few;
+          books = books-demanding derive t ys L (news-apart (held derive t L ++ L.demanded) hs) tests_are.1 f.books few;
           later = later;
           known = f.state;
           demands_inquired = inquired;
@@ -138,9 +138,9 @@ module _ (derive : ℕ → ℕ) (t : List ℕ) where
         among x (inl e) = in_append-l x hs L.demanded (unfold new in news_in (held derive t L ++ L.demanded) hs x e)
         among x (inr e) = in_append-r x hs L.demanded e
 
-        tests-are : (implies («in» s ACTIVE) (all (λ g. elem (derive g) L.inquired) ys) ≡ true)
+        tests_are : (implies («in» s ACTIVE) (all (λ g. elem (derive g) L.inquired) ys) ≡ true)
             × (once (ids_of derive (held derive t L ++ L.demanded)) (ids_of derive ys) ≡ true)
-        tests-are =
+        tests_are =
             let a : Bool = implies («in» s ACTIVE) (all (λ g. elem (derive g) L.inquired) ys) in
             let b : Bool = once (ids_of derive (held derive t L ++ L.demanded)) (ids_of derive ys) in
             (and_l a b right, and_r a b right)
@@ -151,7 +151,7 @@ module _ (derive : ℕ → ℕ) (t : List ℕ) where
             subst (λ (v : ℕ). v ∈ L.inquired) q (go z (∪-in z ys L.demanded m))
           where
             go : (z : ℕ) → (z ∈ ys) ⊎ (z ∈ L.demanded) → derive z ∈ L.inquired
-            go z (inl p) = all_in (λ g. elem (derive g) L.inquired) ys (implies_of («in» s ACTIVE) _ tests-are.0 a) z p
+            go z (inl p) = all_in (λ g. elem (derive g) L.inquired) ys (implies_of («in» s ACTIVE) _ tests_are.0 a) z p
             go z (inr p) = f.demands_inquired a (derive z) (in_ids derive z L.demanded p)
 
     lawful_demand : (hs : List ℕ) → 2 ≤ s.state → all (λ x. elem x L.offered) hs ≡ true → Lawful h s (demand hs) (change derive t h s (demand hs))

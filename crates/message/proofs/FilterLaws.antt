@@ -41,9 +41,9 @@ module _ (size salt : ℕ) (c : Columns) (at : ℕ) (out : List ℕ) where
     filter_out_of_range e = rw (counts, e)
 
     module _ (range : in_range size salt ≡ true) where
-      pub filter-short-columns : has_room size c ≡ false → write (Refused Room) out ≡ filter_call size salt c at out
+      pub filter_short_columns : has_room size c ≡ false → write (Refused Room) out ≡ filter_call size salt c at out
       unfolding filter_call wrote
-      filter-short-columns e = rw (counts, range, e)
+      filter_short_columns e = rw (counts, range, e)
 
       module _ (wide : has_room size c ≡ true) {w n : ℕ} (ew : w ≡ width_for size c.counts) (en : n ≡ filter_bytes w size) where
         bytes : length (layouts (slices_of size salt (width_for size c.counts) c)) ≡ n
@@ -52,13 +52,13 @@ module _ (size salt : ℕ) (c : Columns) (at : ℕ) (out : List ℕ) where
             filter_length size salt (width_for size c.counts) c k.idsums k.hashsums k.counts
             ∙ sym (en ∙ ap (λ (v : ℕ). filter_bytes v size) ew)
 
-        pub filter-short-buffer : leb (at + n) (length out) ≡ false → write (Refused Room) out ≡ filter_call size salt c at out
+        pub filter_short_buffer : leb (at + n) (length out) ≡ false → write (Refused Room) out ≡ filter_call size salt c at out
         unfolding filter_call wrote
-        filter-short-buffer e = rw (counts, range, wide, room_tested (slices_of size salt (width_for size c.counts) c) at out n bytes e)
+        filter_short_buffer e = rw (counts, range, wide, room_tested (slices_of size salt (width_for size c.counts) c) at out n bytes e)
 
         module _ (there : leb (at + n) (length out) ≡ true) where
-          pub filter-put : FilterPut size w c out at
-          filter-put =
+          pub filter_put : FilterPut size w c out at
+          filter_put =
               let k = wide_of size c wide in
               let s = range-sound size salt range in
               let least = width-smallest size c.counts counts in
@@ -74,10 +74,10 @@ module _ (size salt : ℕ) (c : Columns) (at : ℕ) (out : List ℕ) where
                 room = omega (arith, leb-true (at + n) (length out) there);
               }
 
-          pub filter-written : {p : ℕ} {o : List ℕ} → p ≡ at + filter_bytes w size → o ≡ over at (layouts (slices_of size salt w c)) out
+          pub filter_written : {p : ℕ} {o : List ℕ} → p ≡ at + filter_bytes w size → o ≡ over at (layouts (slices_of size salt w c)) out
               → write (To p) o ≡ filter_call size salt c at out
           unfolding filter_call
-          filter-written {p} {o} ep eo =
+          filter_written {p} {o} ep eo =
               let cs = slices_of size salt (width_for size c.counts) c in
               rw (counts, range, wide, room_tested cs at out n bytes there)
               (wrote-there cs at out n bytes refl (eo ∙ ap (λ (v : ℕ). over at (layouts (slices_of size salt v c)) out) ew) (ep ∙ ap (λ (m : ℕ). at + m) (sym en)))

@@ -73,14 +73,14 @@ module _ (derive : ℕ → ℕ) (t M : List ℕ) (room : 8192 ≤ length M) wher
       offered : h ∈ L.offered
       offered = and_l (elem h L.offered) (not (elem h L.served)) e
 
-      serve-new : serve_one derive t L.demanded h (walk true (laid_marks derive t L M) []) ≡ walk true (laid_marks derive t (serving (h ∷ []) L) M) []
-      serve-new =
+      serve_new : serve_one derive t L.demanded h (walk true (laid_marks derive t L M) []) ≡ walk true (laid_marks derive t (serving (h ∷ []) L) M) []
+      serve_new =
           by_test true e
           ∙ ap (λ (ms : List ℕ). walk true ms [])
           (serve_set derive t L o M room h offered (not-true (elem h L.served) (and_r (elem h L.offered) (not (elem h L.served)) e)))
 
-      ordered-serving : Ordered derive t (serving (h ∷ []) L)
-      ordered-serving = record {
+      ordered_serving : Ordered derive t (serving (h ∷ []) L)
+      ordered_serving = record {
         books =
             books-serving derive t (h ∷ []) L (λ y k. elem_cases (λ (z : ℕ). z ∈ L.offered) y h [] k offered (λ q. absurd (not_in_nil y q))) o.books;
         asc = o.asc;
@@ -112,7 +112,7 @@ module _ (derive : ℕ → ℕ) (t M : List ℕ) (room : 8192 ≤ length M) wher
       start = serve_one derive t L.demanded h (walk true (laid_marks derive t L M) [])
 
       go : (b : Bool) → servable L h ≡ b → Served L (h ∷ hs) (rest start)
-      go true e = subst (λ (w : Walk). Served L (h ∷ hs) (rest w)) (sym (serve-new L o h e)) (record {
+      go true e = subst (λ (w : Walk). Served L (h ∷ hs) (rest w)) (sym (serve_new L o h e)) (record {
         fine = (next e).fine ∙ sym one;
         laid = λ k. (next e).laid (sym one ∙ k) ∙ ap (λ (K : Ledger). laid_marks derive t K M) (sym (serving-cons derive t L o.books h hs));
       })
@@ -127,7 +127,7 @@ module _ (derive : ℕ → ℕ) (t M : List ℕ) (room : 8192 ≤ length M) wher
   serve_walk : (hs : List ℕ) (L : Ledger) → Ordered derive t L → Served L hs (walk_over L hs)
   unfolding go_all all once ◌∪◌
   serve_walk [] L o = record { fine = refl; laid = λ k. refl }
-  serve_walk (h ∷ hs) L o = serve_first L o h hs (λ e. serve_walk hs (serving (h ∷ []) L) (ordered-serving L o h e))
+  serve_walk (h ∷ hs) L o = serve_first L o h hs (λ e. serve_walk hs (serving (h ∷ []) L) (ordered_serving L o h e))
 
 -- ---- the turn
 

@@ -144,14 +144,14 @@ module _ (G : Given) (s : Sound G) (timely : entry G.numbers.state 6 ≡ true) (
       is_same : same ≡ eqb (joined 8 far) check
       is_same = compared ∙ ap (eqb (joined 8 far)) number
 
-      pub done-differs : {r : Answer} → not same ≡ true → r ≡ aborted 8 G.numbers → leaves G r G.records G.marks G.out ≡ step_on first_eight said G
-      done-differs e is = rw is (halted_tie G s said 8 refl refl (done-refusal late met (test_refused is_same e)))
+      pub done_differs : {r : Answer} → not same ≡ true → r ≡ aborted 8 G.numbers → leaves G r G.records G.marks G.out ≡ step_on first_eight said G
+      done_differs e is = rw is (halted_tie G s said 8 refl refl (done-refusal late met (test_refused is_same e)))
 
       module _ (equal : not same ≡ false) where
-        pub done-answers : {r : Answer} {sent : ℕ} {out' : List ℕ} → is_passive ≡ true
+        pub done_answers : {r : Answer} {sent : ℕ} {out' : List ℕ} → is_passive ≡ true
             → (sent ≡ 0 + length (layouts (done (joined 8 (take 64 acc)) ∷ []))) × (out' ≡ over 0 (layouts (done (joined 8 (take 64 acc)) ∷ [])) G.out)
             → r ≡ changed G.numbers FINISHED 1 G.numbers.demanded sent 0 → leaves G r G.records G.marks out' ≡ step_on first_eight said G
-        done-answers e wrote is =
+        done_answers e wrote is =
             rw (is, wrote.0, wrote.1, number, zero-add (length (layouts (done check ∷ []))))
             (change_tie G s said refl (is_done true true check) 1 G.numbers.demanded G.records G.marks (over 0 (layouts (done check ∷ [])) G.out)
             (record { inquired = refl; went = refl; count = given-long G s; records = same-records G s; marks = marks-kept true; out = sent_only (done check ∷ []) G.out })

@@ -108,18 +108,18 @@ module _ (G : Given) (s : Sound G) where
         rw is (halted_tie G s (element bytes) 7 refl refl (element-refusal (sym unmet-place ∙ unmet_missed G.marks place found l) refl))
 
     module _ (u : Wanted G) where
-      check-now : checksum first_eight (table_of G) (gained_in G) ≡ check
-      check-now = check-element first_eight (table_of G) (ledger_in G) (given-books G s) (hash_given G) u ∙ ap (λ (x : ℕ). bit_xor x (hash_given G)) (check-given G s)
+      check_now : checksum first_eight (table_of G) (gained_in G) ≡ check
+      check_now = check-element first_eight (table_of G) (ledger_in G) (given-books G s) (hash_given G) u ∙ ap (λ (x : ℕ). bit_xor x (hash_given G)) (check-given G s)
 
-      marks-now : (d : Bool) → laid_marks first_eight (table_of G) (done_if d (gained_in G)) G.marks ≡ set G.marks place 8
+      marks_now : (d : Bool) → laid_marks first_eight (table_of G) (done_if d (gained_in G)) G.marks ≡ set G.marks place 8
       unfolding flag_of mark_of
-      marks-now d =
+      marks_now d =
           sym (gain_set first_eight (table_of G) (ledger_in G) (given_ordered G s) G.marks (given-rooms G s).1 (hash_given G) u)
           ∙ ap₂ (λ (m k : List ℕ). set m (place_of_hash first_eight (table_of G) k (hash_given G)) 8) (same-marks G s) (given-demanded G s)
 
       -- the last one; our DONE goes
-      abbrev isGained : Bool → Bool → ℕ → Change
-      isGained last says x = record {
+      abbrev is_gained : Bool → Bool → ℕ → Change
+      is_gained last says x = record {
         state = cond last FINISHED G.numbers.state;
         ledger = done_if says (gained_in G);
         far = (session_in G).far;
@@ -128,42 +128,42 @@ module _ (G : Given) (s : Sound G) where
       }
 
       element-change : {last says : Bool} → last_one (session_in G) (gained_in G) ≡ last → says_done first_eight (table_of G) (session_in G) (gained_in G) ≡ says
-          → change_in G (element bytes) ≡ isGained last says check
+          → change_in G (element bytes) ≡ is_gained last says check
       unfolding change session_of
-      element-change last says = λ i. isGained (last i) (says i) (check-now i)
+      element-change last says = λ i. is_gained (last i) (says i) (check_now i)
 
-      pub element-quiet : {p : ℕ} {r : Answer} → p ≡ place → (n k : ℕ) → LastUnmet n G → LastCame k G → is_all k || is_last n ≡ false
+      pub element_quiet : {p : ℕ} {r : Answer} → p ≡ place → (n k : ℕ) → LastUnmet n G → LastCame k G → is_all k || is_last n ≡ false
           → r ≡ changed G.numbers G.numbers.state G.numbers.done G.numbers.demanded 0 0
           → leaves G r G.records (set G.marks p 8) G.out ≡ step_on first_eight (element bytes) G
       unfolding layouts
-      element-quiet at n k count all e is =
+      element_quiet at n k count all e is =
           let other = last_now u n count ∙ second_fails (is_all k) (is_last n) e in
           rw (is, at)
-          (change_tie G s (element bytes) refl (isGained false false check) G.numbers.done G.numbers.demanded
+          (change_tie G s (element bytes) refl (is_gained false false check) G.numbers.done G.numbers.demanded
           G.records (set G.marks place 8) G.out
-          (record { inquired = refl; went = given-done G s; count = given-long G s; records = same-records G s; marks = marks-now false; out = nothing-sent G.out })
+          (record { inquired = refl; went = given-done G s; count = given-long G s; records = same-records G s; marks = marks_now false; out = nothing-sent G.out })
           (element-refusal u (ap (λ (b : Bool). implies b (agrees first_eight (table_of G) (session_in G).far (gained_in G))) other))
           (element-change other (says_now u n count k all ∙ e)))
 
       -- our DONE goes: the checksum is made, and that of the last one compared
       module _ {last : Bool} (ends : last_one (session_in G) (gained_in G) ≡ last) (acc : List ℕ) (sum : Sum check acc)
           {same : Bool} (compared : same ≡ eqb far (joined 8 (take 64 acc))) where
-        agrees-now : implies (last_one (session_in G) (gained_in G)) (agrees first_eight (table_of G) (session_in G).far (gained_in G)) ≡ not (last && not same)
+        agrees_now : implies (last_one (session_in G) (gained_in G)) (agrees first_eight (table_of G) (session_in G).far (gained_in G)) ≡ not (last && not same)
         unfolding agrees session_of
-        agrees-now = ap₂ implies ends (ap (eqb far) (check-now ∙ sym (sum_number check acc sum)) ∙ sym compared) ∙ implies_unless last same
+        agrees_now = ap₂ implies ends (ap (eqb far) (check_now ∙ sym (sum_number check acc sum)) ∙ sym compared) ∙ implies_unless last same
 
-        pub last-differs : {r : Answer} → last && not same ≡ true → r ≡ aborted 8 G.numbers
+        pub last_differs : {r : Answer} → last && not same ≡ true → r ≡ aborted 8 G.numbers
             → leaves G r G.records G.marks G.out ≡ step_on first_eight (element bytes) G
-        last-differs e is = rw is (halted_tie G s (element bytes) 8 refl refl (element-refusal u (agrees-now ∙ ap not e)))
+        last_differs e is = rw is (halted_tie G s (element bytes) 8 refl refl (element-refusal u (agrees_now ∙ ap not e)))
 
-        pub last-sends : {p sent next : ℕ} {r : Answer} {out' : List ℕ} → last && not same ≡ false → p ≡ place
+        pub last_sends : {p sent next : ℕ} {r : Answer} {out' : List ℕ} → last && not same ≡ false → p ≡ place
             → says_done first_eight (table_of G) (session_in G) (gained_in G) ≡ true
             → (sent ≡ 0 + length (layouts (done (joined 8 (take 64 acc)) ∷ []))) × (out' ≡ over 0 (layouts (done (joined 8 (take 64 acc)) ∷ [])) G.out)
             → next ≡ cond last FINISHED G.numbers.state → r ≡ changed G.numbers next 1 G.numbers.demanded sent 0
             → leaves G r G.records (set G.marks p 8) out' ≡ step_on first_eight (element bytes) G
-        last-sends e at says wrote goes is =
+        last_sends e at says wrote goes is =
             rw (is, goes, at, wrote.0, wrote.1, sum_number check acc sum, zero-add (length (layouts (done check ∷ []))))
-            (change_tie G s (element bytes) refl (isGained last true check) 1 G.numbers.demanded
+            (change_tie G s (element bytes) refl (is_gained last true check) 1 G.numbers.demanded
             G.records (set G.marks place 8) (over 0 (layouts (done check ∷ [])) G.out)
-            (record { inquired = refl; went = refl; count = given-long G s; records = same-records G s; marks = marks-now true; out = sent_only (done check ∷ []) G.out })
-            (element-refusal u (agrees-now ∙ ap not e)) (element-change ends says))
+            (record { inquired = refl; went = refl; count = given-long G s; records = same-records G s; marks = marks_now true; out = sent_only (done check ∷ []) G.out })
+            (element-refusal u (agrees_now ∙ ap not e)) (element-change ends says))

@@ -35,7 +35,7 @@ use Rattle.ledger.proofs.GridLaws.{admitted_other}
 use Rattle.ledger.proofs.KeptLaws.{books-asking}
 use Rattle.ledger.proofs.ActLaws.{asking-cons}
 use Rattle.ledger.proofs.LaidLaws.{laid_marks}
-use Rattle.session.proofs.PlaceTie.{Ordered, held_at, hash-there, asked-at, ask-set}
+use Rattle.session.proofs.PlaceTie.{Ordered, held_at, hash-there, asked-at, ask_set}
 
 module _ (derive : ℕ → ℕ) (t M : List ℕ) (room : 8192 ≤ length M) where
   -- ---- one ID
@@ -67,21 +67,21 @@ module _ (derive : ℕ → ℕ) (t M : List ℕ) (room : 8192 ≤ length M) wher
     ask_ignored e = by_tests false _ e refl
 
     module _ (e : x ∈ held_ids derive t L) where
-      ask-again : elem x L.asked ≡ true → ask_one derive t L.demanded x before ≡ walk false (laid_marks derive t L M) hs
-      ask-again k = by_tests true true e (ap (λ (b : Bool). b || leb 4096 (length hs)) (asked-at derive t L o M room x e ∙ k))
+      ask_again : elem x L.asked ≡ true → ask_one derive t L.demanded x before ≡ walk false (laid_marks derive t L M) hs
+      ask_again k = by_tests true true e (ap (λ (b : Bool). b || leb 4096 (length hs)) (asked-at derive t L o M room x e ∙ k))
 
-      ask-new : elem x L.asked ≡ false → length hs < 4096
+      ask_new : elem x L.asked ≡ false → length hs < 4096
           → ask_one derive t L.demanded x before
           ≡ walk true (laid_marks derive t (asking derive t (x ∷ []) L) M) (hs ++ hash_of derive (held derive t L) x ∷ [])
-      ask-new k h =
+      ask_new k h =
           by_tests true false e (ap₂ ◌||◌ (asked-at derive t L o M room x e ∙ k) (lt-leb 4096 (length hs) h))
-          ∙ ap₂ (λ (ms : List ℕ) (g : ℕ). walk true ms (hs ++ g ∷ [])) (ask-set derive t L o M room x e) (hash-there derive t L o M room x e)
+          ∙ ap₂ (λ (ms : List ℕ) (g : ℕ). walk true ms (hs ++ g ∷ [])) (ask_set derive t L o M room x e) (hash-there derive t L o M room x e)
 
       alone : (x ∷ []) ⊆ held_ids derive t L
       alone y k = elem_cases (λ (z : ℕ). z ∈ held_ids derive t L) y x [] k e (λ q. absurd (not_in_nil y q))
 
-      ordered-asking : Ordered derive t (asking derive t (x ∷ []) L)
-      ordered-asking = record {
+      ordered_asking : Ordered derive t (asking derive t (x ∷ []) L)
+      ordered_asking = record {
         books = books-asking derive t (x ∷ []) L alone o.books;
         asc = o.asc;
         ids = o.ids;
@@ -170,10 +170,10 @@ module _ (derive : ℕ → ℕ) (t M : List ℕ) (room : 8192 ≤ length M) wher
             → Asked L hs (asks derive t L (x ∷ xs)) (go_all is_fine (ask_one derive t L.demanded) (x ∷ xs) (walk true (laid_marks derive t L M) hs))
         go false e b k = ask_cons (walk true (laid_marks derive t L M) hs) (asks derive t L xs) (ask_ignored L o x hs e) (asks_by false e) same
         go true e true k =
-            ask_cons (walk false (laid_marks derive t L M) hs) (x ∷ asks derive t L xs) (ask-again L o x hs e k) (asks_by true e) (asked_bad L hs (asks derive t L xs) x k)
+            ask_cons (walk false (laid_marks derive t L M) hs) (x ∷ asks derive t L xs) (ask_again L o x hs e k) (asks_by true e) (asked_bad L hs (asks derive t L xs) x k)
         go true e false k =
             ask_cons (walk true (laid_marks derive t (asking derive t (x ∷ []) L) M) (hs ++ hash_of derive (held derive t L) x ∷ [])) (x ∷ asks derive t L xs)
-            (ask-new L o x hs e k (omega (arith, room-asked L o x hs e k))) (asks_by true e)
+            (ask_new L o x hs e k (omega (arith, room-asked L o x hs e k))) (asks_by true e)
             (asked-next L o hs (asks derive t L xs) x k (rest (walk true (laid_marks derive t (asking derive t (x ∷ []) L) M) (hs ++ hash_of derive (held derive t L) x ∷ []))) (next e k))
 
   ask_walk : (xs : List ℕ) (L : Ledger) → Ordered derive t L → (hs : List ℕ) → length hs ≤ length L.asked
@@ -182,7 +182,7 @@ module _ (derive : ℕ → ℕ) (t M : List ℕ) (room : 8192 ≤ length M) wher
   ask_walk [] L o hs h = asked-none L hs
   ask_walk (x ∷ xs) L o hs h =
       ask_first L o hs h x xs (ask_walk xs L o hs h)
-      (λ e k. ask_walk xs (asking derive t (x ∷ []) L) (ordered-asking L o x hs e) (hs ++ hash_of derive (held derive t L) x ∷ [])
+      (λ e k. ask_walk xs (asking derive t (x ∷ []) L) (ordered_asking L o x hs e) (hs ++ hash_of derive (held derive t L) x ∷ [])
       (omega (arith, length-append hs (hash_of derive (held derive t L) x ∷ []), one_more L o x hs e k)))
 
 -- ---- the turn

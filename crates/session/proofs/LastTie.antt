@@ -62,9 +62,9 @@ module _ (t : List ℕ) (table : Table first_eight t) (size swaps : ℕ) (r : Re
   unfolding fate_of too_many
   fate_is = go (is_complete r) refl
     where
-      refused-if : (b : Bool) (x y : Refusal) → refusal_number (cond (not b) x y) ≡ cond b (refusal_number y) (refusal_number x)
-      refused-if true x y = refl
-      refused-if false x y = refl
+      refused_if : (b : Bool) (x y : Refusal) → refusal_number (cond (not b) x y) ≡ cond b (refusal_number y) (refusal_number x)
+      refused_if true x y = refl
+      refused_if false x y = refl
 
       falsely : Refusal
       falsely = first_of ((FalseReading, not (is_false r)) ∷ [])
@@ -74,11 +74,11 @@ module _ (t : List ℕ) (table : Table first_eight t) (size swaps : ℕ) (r : Re
           ≡ cond b (cond (ltb 4096 (length t + r.answer.theirs)) 10 0) (cond (leb 16 swaps) 9 r.answer.refusal)
       go true e =
           (λ i. refusal_number (cond (not (ltb 4096 (held-count e i))) (first_of ((FalseReading, not (eqb (k.clean e i) 6)) ∷ [])) Limit))
-          ∙ refused-if (ltb 4096 (length t + r.answer.theirs)) None Limit
+          ∙ refused_if (ltb 4096 (length t + r.answer.theirs)) None Limit
       go false e =
           ap (λ (b : Bool). refusal_number (cond b falsely Swaps)) (sym (not-not (ltb swaps 16)) ∙ ap not (sym (leb_not_ltb 16 swaps)))
-          ∙ refused-if (leb 16 swaps) falsely Swaps
-          ∙ ap (cond (leb 16 swaps) 9) (refused-if (is_false r) None FalseReading ∙ k.lists.refuses)
+          ∙ refused_if (leb 16 swaps) falsely Swaps
+          ∙ ap (cond (leb 16 swaps) 9) (refused_if (is_false r) None FalseReading ∙ k.lists.refuses)
 
 -- ---- what follows a reading
 

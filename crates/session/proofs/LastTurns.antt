@@ -166,21 +166,21 @@ module _ {N : Numbers} {table message : List ℕ} {size offset salt width : ℕ}
       left : after ≡ kept there
       left = d.leaves ∙ ap (λ (b : Bool). cond b (wiped size there) (kept there)) h
 
-      ours-is : take f.ours after.ours ≡ ours_in there
-      ours-is = ap₂ take (ap (λ (g : Fate). g.ours) d.told) (ap (λ (x : Read). x.ours) left)
+      ours_is : take f.ours after.ours ≡ ours_in there
+      ours_is = ap₂ take (ap (λ (g : Fate). g.ours) d.told) (ap (λ (x : Read). x.ours) left)
 
-      theirs-is : take f.theirs after.theirs ≡ theirs_in there
-      theirs-is = ap₂ take (ap (λ (g : Fate). g.theirs) d.told) (ap (λ (x : Read). x.theirs) left)
+      theirs_is : take f.theirs after.theirs ≡ theirs_in there
+      theirs_is = ap₂ take (ap (λ (g : Fate). g.theirs) d.told) (ap (λ (x : Read). x.theirs) left)
 
-      pub opens-ready : f.complete ≡ true
+      pub opens_ready : f.complete ≡ true
           → Opens table (take f.ours after.ours) marks × (f.ours ≤ length after.ours) × (f.theirs ≤ length after.theirs) × (f.ours ≤ 4096) × (f.theirs ≤ 4096) × (salt < 64)
           × (4096 ≤ length inquired) × (295008 ≤ length out)
-      opens-ready q =
+      opens_ready q =
           let l : Listing size there = listing first_eight (hashes_of table) size salt (laid (content (exactly_one message) message) cols) ours theirs in
           let r = range-sound size salt p.range in
           let o = ap (λ (g : Fate). g.ours) d.told in
           let t = ap (λ (g : Fate). g.theirs) d.told in (
-            subst (λ (xs : List ℕ). Opens table xs marks) (sym ours-is)
+            subst (λ (xs : List ℕ). Opens table xs marks) (sym ours_is)
                 (reading-opens size salt table (laid (content (exactly_one message) message) cols) ours theirs p.table-good
                 (sym (ap (λ (g : Fate). g.complete) d.told) ∙ q) marks p.marks-room),
             omega (arith, o, l.ours-there, ap (λ (x : Read). length x.ours) left),
@@ -192,26 +192,26 @@ module _ {N : Numbers} {table message : List ℕ} {size offset salt width : ℕ}
             p.out-room,
           )
 
-      pub last-opens : admits_slice N 1 ≡ true → is_placed N size offset salt width ≡ true → f.complete ≡ true → {a : Answer} {M I o : List ℕ}
+      pub last_opens : admits_slice N 1 ≡ true → is_placed N size offset salt width ≡ true → f.complete ≡ true → {a : Answer} {M I o : List ℕ}
           → open_turn' a M I o ≡ open_turn N table size salt (take f.ours after.ours) (take f.theirs after.theirs) marks inquired out
           → last_turn' a M I after o ≡ turn
-      last-opens e k q {a} {M} {I} {o} s =
+      last_opens e k q {a} {M} {I} {o} s =
           ap (λ (y : Read). last_turn' a M I y o) left
           ∙ read-opens N table size salt there marks inquired out d.told h q
-          (s ∙ ap₂ (λ (xs ys : List ℕ). open_turn N table size salt xs ys marks inquired out) ours-is theirs-is)
+          (s ∙ ap₂ (λ (xs ys : List ℕ). open_turn N table size salt xs ys marks inquired out) ours_is theirs_is)
           ∙ last_read e k
 
       module _ (q : f.complete ≡ false) where
-        pub swaps-ready : (size ≤ 4096) × (salt < 64) × (N.swaps < 16)
-        swaps-ready =
+        pub swaps_ready : (size ≤ 4096) × (salt < 64) × (N.swaps < 16)
+        swaps_ready =
             let r = range-sound size salt p.range in
             (r.most, r.salt_in, swaps-few N table size salt there marks inquired out d.told h q)
 
-        pub last-swaps : admits_slice N 1 ≡ true → is_placed N size offset salt width ≡ true → {next : Numbers} → next ≡ swapped_numbers N size salt → {n : ℕ} {o : List ℕ}
+        pub last_swaps : admits_slice N 1 ≡ true → is_placed N size offset salt width ≡ true → {next : Numbers} → next ≡ swapped_numbers N size salt → {n : ℕ} {o : List ℕ}
             → n ≡ length (layouts (own_filter (ids_of first_eight table) next.size next.salt))
             → o ≡ over 0 (layouts (own_filter (ids_of first_eight table) next.size next.salt)) out
             → last_turn' (answered f.refusal n 0 next) marks inquired after o ≡ turn
-        last-swaps e k s {n} {o} i j =
+        last_swaps e k s {n} {o} i j =
             ap₂ (λ (x : Numbers) (y : Read). last_turn' (answered f.refusal n 0 x) marks inquired y o) s left
             ∙ read-swaps N table size salt there marks inquired out d.told h q
             (i ∙ ap (λ (x : Numbers). length (layouts (own_filter (ids_of first_eight table) x.size x.salt))) s)

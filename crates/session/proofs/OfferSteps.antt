@@ -80,20 +80,20 @@ module _ (N : Numbers) (table known I hs : List ℕ) (concerned : ℕ) (R M out 
     offer_bad e is = aborting is ∙ decided (went.judged ∙ e) refl
 
     module _ (e : fine ≡ true) {more : ℕ} (counted : more ≡ extra first_eight I (hashes_of (take (64 * count) bytes))) where
-      too_many : {b : Bool} → ltb 4096 (concerned + more) || ltb 4096 (N.demanded + count) ≡ b
+      too_many_lem : {b : Bool} → ltb 4096 (concerned + more) || ltb 4096 (N.demanded + count) ≡ b
           → ltb 4096 (concerned + extra first_eight I here.hashes) || ltb 4096 (N.demanded + length here.hashes) ≡ b
-      too_many f =
+      too_many_lem f =
           ap₂ (λ (x y : ℕ). ltb 4096 (concerned + x) || ltb 4096 (N.demanded + y)) (sym (counted ∙ ap (extra first_eight I) (went.hashes e))) (sym (went.many e)) ∙ f
 
       pub offer-over : {r : Answer} → ltb 4096 (concerned + more) || ltb 4096 (N.demanded + count) ≡ true → r ≡ aborted 10 N → offer_turn' r (stored R M) out ≡ turn
-      offer-over f is = aborting is ∙ decided (went.judged ∙ e) (too_many f)
+      offer-over f is = aborting is ∙ decided (went.judged ∙ e) (too_many_lem f)
 
       pub offer-taken : {r : Answer} {sent : ℕ} {s : Stored} {out' : List ℕ} → ltb 4096 (concerned + more) || ltb 4096 (N.demanded + count) ≡ false
           → r ≡ answer count sent → s ≡ store_all N.demanded (hashes_of (take (64 * count) bytes)) (stored R M)
           → (sent ≡ 0 + length (layouts (demands_of (hashes_of (take (64 * count) bytes))))) × (out' ≡ over 0 (layouts (demands_of (hashes_of (take (64 * count) bytes)))) out)
           → offer_turn' r s out' ≡ turn
       offer-taken {r} {sent} {s} {out'} f is kept (long, wrote) =
-          (λ i. offer_turn' ((is ∙ ap₂ answer (went.many e) size) i) (records i) (written i)) ∙ decided (went.judged ∙ e) (too_many f)
+          (λ i. offer_turn' ((is ∙ ap₂ answer (went.many e) size) i) (records i) (written i)) ∙ decided (went.judged ∙ e) (too_many_lem f)
         where
           said : hashes_of (take (64 * count) bytes) ≡ here.hashes
           said = went.hashes e

@@ -4,7 +4,7 @@
 --   Ordered                             table and demanded hashes ascend, by hashes and by IDs, and have room
 --   spot x, known h                     whose ID it is, and which hash
 --   held_at, hash-there, asked-at       at the place of an ID: whether it is held; of one that is, its hash, and whether it was asked
---   ask-set                             an INQUIRY's mark
+--   ask_set                             an INQUIRY's mark
 --   serve_test, serve_set               a DEMAND's test and mark
 --   unmet_test, gain_set                an ELEMENT's
 use mathlib.Core.Path.{◌≡◌, refl, sym, ap, ap₂, subst, ◌∙◌}
@@ -217,17 +217,17 @@ module _ (derive : ℕ → ℕ) (t : List ℕ) (L : Ledger) (o : Ordered derive 
       abbrev is : ℕ
       is = hash_of derive (held derive t L) x
 
-      is-id : derive is ≡ x
-      is-id = (hash_of_lem derive (held derive t L) x e).1
+      is_id : derive is ≡ x
+      is_id = (hash_of_lem derive (held derive t L) x e).1
 
       is_known : (is ∈ t) ⊎ (is ∈ L.demanded)
       is_known = held-known derive t L o.books is (hash_of_lem derive (held derive t L) x e).0
 
       at_table : is ∈ t → place_of_id x ≡ position t is
-      at_table k = ap place_of_id (sym is-id) ∙ place-table is k
+      at_table k = ap place_of_id (sym is_id) ∙ place-table is k
 
       at-known : is ∈ L.demanded → place_of_id x ≡ 4096 + position L.demanded is
-      at-known k = ap place_of_id (sym is-id) ∙ place-known is k
+      at-known k = ap place_of_id (sym is_id) ∙ place-known is k
 
       pub hash-there : hash_at_place t L.demanded (place_of_id x) ≡ is
       hash-there = go is_known
@@ -237,7 +237,7 @@ module _ (derive : ℕ → ℕ) (t : List ℕ) (L : Ledger) (o : Ordered derive 
           go (inr k) = ap (hash_at_place t L.demanded) (at-known k) ∙ hash-at-known is k
 
       pub asked-at : is_asked (get_or (laid_marks derive t L M) (place_of_id x) 0) ≡ elem x L.asked
-      asked-at = go is_known ∙ ap (λ (z : ℕ). elem z L.asked) is-id
+      asked-at = go is_known ∙ ap (λ (z : ℕ). elem z L.asked) is_id
         where
           go : (is ∈ t) ⊎ (is ∈ L.demanded) → is_asked (get_or (laid_marks derive t L M) (place_of_id x) 0) ≡ elem (derive is) L.asked
           go (inl k) =
@@ -246,8 +246,8 @@ module _ (derive : ℕ → ℕ) (t : List ℕ) (L : Ledger) (o : Ordered derive 
               ap (λ (p : ℕ). is_asked (get_or (laid_marks derive t L M) p 0)) (at-known k) ∙ ap is_asked (flag_at is k) ∙ flag_of_asked derive t L is
 
       -- it is asked
-      pub ask-set : set (laid_marks derive t L M) (place_of_id x) (get_or (laid_marks derive t L M) (place_of_id x) 0 / 4 * 4 + 3) ≡ laid_marks derive t (asking derive t (x ∷ []) L) M
-      ask-set = go is_known
+      pub ask_set : set (laid_marks derive t L M) (place_of_id x) (get_or (laid_marks derive t L M) (place_of_id x) 0 / 4 * 4 + 3) ≡ laid_marks derive t (asking derive t (x ∷ []) L) M
+      ask_set = go is_known
         where
           asked : Ledger
           asked = asking derive t (x ∷ []) L
@@ -266,10 +266,10 @@ module _ (derive : ℕ → ℕ) (t : List ℕ) (L : Ledger) (o : Ordered derive 
     -- ---- of a hash
 
     module _ (h p m : ℕ) (is : place_of' h ≡ p) (there : get_or (laid_marks derive t L M) p 0 ≡ m) where
-      serve-there : p < 8192
+      serve_there : p < 8192
           → ltb (place_of' h) 8192 && (is_offered (get_or (laid_marks derive t L M) (place_of' h) 0) && not (is_served (get_or (laid_marks derive t L M) (place_of' h) 0)))
           ≡ is_offered m && not (is_served m)
-      serve-there l =
+      serve_there l =
           ap (λ (q : ℕ). ltb q 8192 && (is_offered (get_or (laid_marks derive t L M) q 0) && not (is_served (get_or (laid_marks derive t L M) q 0)))) is
           ∙ ap₂ (λ (b : Bool) (v : ℕ). b && (is_offered v && not (is_served v))) (lt-ltb p 8192 l) there
 
@@ -289,10 +289,10 @@ module _ (derive : ℕ → ℕ) (t : List ℕ) (L : Ledger) (o : Ordered derive 
             → ltb (place_of' h) 8192 && (is_offered (get_or (laid_marks derive t L M) (place_of' h) 0) && not (is_served (get_or (laid_marks derive t L M) (place_of' h) 0)))
             ≡ elem h L.offered && not (elem h L.served)
         go (in_table e) =
-            serve-there h (position t h) (mark_of derive t L h) (hash-place-table h e) (mark-at h e) (omega (arith, low h e))
+            serve_there h (position t h) (mark_of derive t L h) (hash-place-table h e) (mark-at h e) (omega (arith, low h e))
             ∙ ap₂ (λ (a b : Bool). a && not b) (mark_of_offered derive t L h) (mark_of_served derive t L h)
         go (in_demanded e) =
-            serve-there h (4096 + position L.demanded h) (flag_of derive t L h) (hash-place-known h e) (flag_at h e) (high h e)
+            serve_there h (4096 + position L.demanded h) (flag_of derive t L h) (hash-place-known h e) (flag_at h e) (high h e)
             ∙ ap₂ (λ (a b : Bool). a && not b) (flag_of_offered derive t L h) (flag_of_served derive t L h)
         go (in_neither p q) =
             ap (λ (n : ℕ). ltb n 8192 && (is_offered (get_or (laid_marks derive t L M) n 0) && not (is_served (get_or (laid_marks derive t L M) n 0)))) (hash-place-nowhere h p q)

@@ -9,7 +9,7 @@ use Rattle.bucket.specs.Columns.{Columns, columns, view}
 use Rattle.bucket.specs.Places.{places}
 use Rattle.filter.specs.Calls.{filled}
 use Rattle.filter.specs.Steps.{spread}
-use Rattle.filter.proofs.TakingLaws.{taking_start, taking_wide, taking_small, taking-below, taking-next, taking_end}
+use Rattle.filter.proofs.TakingLaws.{taking_start, taking_wide, taking_small, taking_below, taking_next, taking_end}
 use Rattle.filter.proofs.peeling.take_out.Goals as goal
 
 pub loop-j-init : goal.loop-j-init
@@ -26,7 +26,7 @@ settle-t-requires c = let a = c.args in
     let z = to_z w64 (of_z w64 a.s) in (
       c.requires.0,
       c.requires.1,
-      taking-below a.k a.size a.x a.h z was is w.bits w.t w.j c.requires.1 c.requires.2 w.invariant a.tab.now p.result c.requires.0 p.ensures
+      taking_below a.k a.size a.x a.h z was is w.bits w.t w.j c.requires.1 c.requires.2 w.invariant a.tab.now p.result c.requires.0 p.ensures
           c.loop-j-test.true,
       taking_wide a.k a.size a.x a.h z was is w.bits w.t w.j c.requires.1 c.requires.2 w.invariant,
       rw (to_z-of_z w64 a.s c.ranges.s) c.requires.3,
@@ -40,7 +40,7 @@ loop-j-preserved c = let a = c.args in
     let p = c.places-p in
     let t = c.settle-t in
     let was : Columns = columns a.ids.now a.hashes.now a.counts.now in
-    taking-next a.k a.size a.x a.h (to_z w64 (of_z w64 a.s)) was (columns w.ids w.hashes w.counts) w.bits w.t w.j
+    taking_next a.k a.size a.x a.h (to_z w64 (of_z w64 a.s)) was (columns w.ids w.hashes w.counts) w.bits w.t w.j
     c.requires.1 c.requires.2 w.invariant a.tab.now p.result c.requires.0 p.ensures
     t.new.bits t.result (columns t.new.ids t.new.hashes t.new.counts)
     c.loop-j-test.true

@@ -1,6 +1,6 @@
 -- `filter::repeats::enroll` meets its contract: a new number is noted at the empty place where the search for it ends. Assumes nothing.
 use native.Mathlib.Omega.{arith}
-use Rattle.filter.proofs.RepeatLaws.{enrolled_noted, enrolled_head, link, enrolled-link}
+use Rattle.filter.proofs.RepeatLaws.{enrolled_noted, enrolled_head, link, enrolled_link}
 use Rattle.filter.proofs.repeats.enroll.Goals as goal
 use Rattle.filter.proofs.repeats.enroll.Goals.{in-Head, in-Link}
 
@@ -18,5 +18,5 @@ bounds-links-at c = let (_, ends) = link c.args.v c.requires.0 c.requires.1 c.fi
 pub returns : goal.returns
 returns c = elim c.match-p.branch [
   | in-Head w ↦ rw (w.heads-is, w.links-is) (enrolled_head c.args.v c.requires.0 c.requires.1 c.find-p.ensures w.in-Head.is)
-  | in-Link w ↦ rw (w.heads-is, w.links-is) (enrolled-link c.args.v c.requires.0 c.requires.1 c.find-p.ensures w.in-Link.is)
+  | in-Link w ↦ rw (w.heads-is, w.links-is) (enrolled_link c.args.v c.requires.0 c.requires.1 c.find-p.ensures w.in-Link.is)
 ]

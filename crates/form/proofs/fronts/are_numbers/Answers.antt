@@ -10,7 +10,7 @@ use Rattle.form.specs.Tallies.{idle, numbers_fit}
 use Rattle.form.proofs.FormByLaws.{implies_by}
 use Rattle.form.proofs.fronts.are_numbers.Goals as goal
 
-fit-by : (N : Numbers) (state range quiet : Bool) → state ≡ is_state N.state → range ≡ in_range N.size N.salt → quiet ≡ idle N.state N.first
+fit_by : (N : Numbers) (state range quiet : Bool) → state ≡ is_state N.state → range ≡ in_range N.size N.salt → quiet ≡ idle N.state N.first
     → leb N.first 1
     && (leb N.done 1
     && (leb N.demanded 4096
@@ -20,8 +20,8 @@ fit-by : (N : Numbers) (state range quiet : Bool) → state ≡ is_state N.state
     && (range && not (quiet && not (eqb N.demanded 0 && (eqb N.inquired 0 && eqb N.done 0)))))))))
     ≡ numbers_fit N
 unfolding numbers_fit counts_nothing
-fit-by N state range quiet q e k = rw (q, e, k, implies_by (idle N.state N.first) (eqb N.demanded 0 && (eqb N.inquired 0 && eqb N.done 0)))
+fit_by N state range quiet q e k = rw (q, e, k, implies_by (idle N.state N.first) (eqb N.demanded 0 && (eqb N.inquired 0 && eqb N.done 0)))
 
 pub returns : goal.returns
-returns c = fit-by c.args.n c.is_state.result c.in_range.result c.is_idle-idle.result
+returns c = fit_by c.args.n c.is_state.result c.in_range.result c.is_idle-idle.result
     c.is_state.ensures c.in_range.ensures c.is_idle-idle.ensures

@@ -5,7 +5,7 @@ use lib.ListN.{length}
 use Rattle.bucket.proofs.TestLaws.{test_refused, test_granted}
 use Rattle.filter.proofs.TableLaws.{hashes-length, table-count}
 use Rattle.form.proofs.SendingLaws.{own_filter_there}
-use Rattle.form.proofs.StartLaws.{sender_no_table, sender-out_of_range, sender-no-room, sender-starts, rooms-there}
+use Rattle.form.proofs.StartLaws.{sender_no_table, sender-out_of_range, sender_no_room, sender_starts, rooms-there}
 use Rattle.std.proofs.Common.{ap}
 use mathlib.Core.Bool.{not}
 use Rattle.form.proofs.starting.start_sender.Goals as goal
@@ -21,7 +21,7 @@ returns-then-not-in_range c = let a = c.args in
 
 pub returns-then-marks-out : goal.returns-then-marks-out
 returns-then-marks-out c = let a = c.args in
-    sender-no-room a.size a.salt a.table.now a.marks.now a.out.now
+    sender_no_room a.size a.salt a.table.now a.marks.now a.out.now
     (test_granted c.is_table.ensures (ap not c.if-not-is_table.false)) (test_granted c.in_range.ensures (ap not c.if-not-in_range.false))
     c.if-marks-out.true c.no_session-then-marks-out.ensures
 
@@ -42,7 +42,7 @@ returns c =  -- behind the three tests
     let range = test_granted c.in_range.ensures (ap not c.if-not-in_range.false) in
     let sent = own_filter_there a.table.now a.size a.salt a.out.now table range
     (omega (arith, rooms-there 8192 295008 (length a.marks.now) (length a.out.now) c.if-marks-out.false)) c.send_filter-sent.ensures in
-    sender-starts a.size a.salt a.table.now a.marks.now a.out.now
+    sender_starts a.size a.salt a.table.now a.marks.now a.out.now
     table range c.if-marks-out.false
     c.fresh.ensures c.answered.ensures c.count.ensures c.clear.ensures
     sent.0 sent.1

@@ -7,7 +7,7 @@ use Rattle.bucket.proofs.TestLaws.{test_refused, test_granted}
 use Rattle.filter.specs.Calls.{in_range, are_counts, has_room}
 use Rattle.filter.proofs.FilledLaws.{wide_of}
 use Rattle.filter.proofs.PartLaws.{range-sound}
-use Rattle.message.proofs.FilterLaws.{filter_not_counts, filter_out_of_range, filter-short-columns, filter-short-buffer, filter-put, filter-written}
+use Rattle.message.proofs.FilterLaws.{filter_not_counts, filter_out_of_range, filter_short_columns, filter_short_buffer, filter_put, filter_written}
 use Rattle.std.proofs.Common.{ap}
 use mathlib.Core.Bool.{not}
 use Rattle.message.proofs.filters.filter.Goals as goal
@@ -36,7 +36,7 @@ returns-then-not-in_range c = let a = c.args in
 pub returns-then-not-has_room : goal.returns-then-not-has_room
 returns-then-not-has_room c = let a = c.args in
     let cols = columns a.ids.now a.hashes.now a.counts.now in
-    filter-short-columns a.size a.salt cols a.at a.out.now (counted (goal.at.returns-then-not-has_room c).Else-not-are_counts) (ranged (goal.at.returns-then-not-has_room c).Else-not-in_range) (test_refused c.has_room.ensures (ap not c.if-not-has_room.true))
+    filter_short_columns a.size a.salt cols a.at a.out.now (counted (goal.at.returns-then-not-has_room c).Else-not-are_counts) (ranged (goal.at.returns-then-not-has_room c).Else-not-in_range) (test_refused c.has_room.ensures (ap not c.if-not-has_room.true))
 
 pub width_for-width-requires : goal.width_for-width-requires
 width_for-width-requires c = ((wide_of _ _ (roomy c)).counts, counted (goal.at.width_for-width-requires c).Else-not-are_counts)
@@ -47,18 +47,18 @@ filter_bytes-requires c = (range-sound _ _ (ranged (goal.at.filter_bytes-require
 pub returns-then-not-has_room-2 : goal.returns-then-not-has_room-2
 returns-then-not-has_room-2 c = let a = c.args in
     let cols = columns a.ids.now a.hashes.now a.counts.now in
-    filter-short-buffer a.size a.salt cols a.at a.out.now (counted (goal.at.returns-then-not-has_room-2 c).Else-not-are_counts) (ranged (goal.at.returns-then-not-has_room-2 c).Else-not-in_range) (roomy (goal.at.returns-then-not-has_room-2 c).Else-not-has_room)
+    filter_short_buffer a.size a.salt cols a.at a.out.now (counted (goal.at.returns-then-not-has_room-2 c).Else-not-are_counts) (ranged (goal.at.returns-then-not-has_room-2 c).Else-not-in_range) (roomy (goal.at.returns-then-not-has_room-2 c).Else-not-has_room)
     c.width_for-width.ensures c.filter_bytes.ensures (test_refused c.has_room-2.ensures (ap not c.if-not-has_room-2.true))
 
 pub put_filter-next-requires : goal.put_filter-next-requires
 put_filter-next-requires c = let a = c.args in
     let cols = columns a.ids.now a.hashes.now a.counts.now in
-    filter-put a.size a.salt cols a.at a.out.now (counted (goal.at.put_filter-next-requires c).Else-not-are_counts) (ranged (goal.at.put_filter-next-requires c).Else-not-in_range) (roomy (goal.at.put_filter-next-requires c).Else-not-has_room)
+    filter_put a.size a.salt cols a.at a.out.now (counted (goal.at.put_filter-next-requires c).Else-not-are_counts) (ranged (goal.at.put_filter-next-requires c).Else-not-in_range) (roomy (goal.at.put_filter-next-requires c).Else-not-has_room)
     c.width_for-width.ensures c.filter_bytes.ensures (test_granted c.has_room-2.ensures (ap not c.if-not-has_room-2.false))
 
 pub returns : goal.returns
 returns c = let a = c.args in
     let cols = columns a.ids.now a.hashes.now a.counts.now in
     let put = c.put_filter-next in
-    filter-written a.size a.salt cols a.at a.out.now (counted (goal.at.returns c).Else-not-are_counts) (ranged (goal.at.returns c).Else-not-in_range) (roomy (goal.at.returns c).Else-not-has_room)
+    filter_written a.size a.salt cols a.at a.out.now (counted (goal.at.returns c).Else-not-are_counts) (ranged (goal.at.returns c).Else-not-in_range) (roomy (goal.at.returns c).Else-not-has_room)
     c.width_for-width.ensures c.filter_bytes.ensures (test_granted c.has_room-2.ensures (ap not c.if-not-has_room-2.false)) put.ensures.0 put.ensures.1

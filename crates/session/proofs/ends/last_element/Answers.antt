@@ -11,7 +11,7 @@ use Rattle.bucket.proofs.TestLaws.{cond-made, cond-kept}
 use Rattle.ledger.specs.Calls.{given}
 use Rattle.session.specs.Ready.{Sum}
 use Rattle.session.proofs.CheckBytes.{check_in, check-made}
-use Rattle.session.proofs.ElementLaws.{last-differs, last-sends}
+use Rattle.session.proofs.ElementLaws.{last_differs, last_sends}
 use Rattle.session.proofs.ends.last_element.Goals as goal
 use Rattle.session.proofs.ends.last_element.Goals.{then-last, else-last}
 use Rattle.session.proofs.ends.last_element.Goals.{After-xor_into}
@@ -36,7 +36,7 @@ pub returns-then-last-same_hash : goal.returns-then-last-same_hash
 returns-then-last-same_hash c = λ I message ours theirs bytes cols s timely u at ends says.
     let a = c.args in
     let G = given a.numbers a.table.now a.records.now a.marks.now I cols ours theirs a.hash.now message a.out.now in
-    last-differs G s timely bytes u ends c.xor_into.new.acc (sum (goal.at.returns-then-last-same_hash c).After-xor_into) c.same_hash.ensures
+    last_differs G s timely bytes u ends c.xor_into.new.acc (sum (goal.at.returns-then-last-same_hash c).After-xor_into) c.same_hash.ensures
     c.if-last-same_hash.true c.aborted.ensures
 
 pub slice_bounds-send_done-end : goal.slice_bounds-send_done-end
@@ -53,5 +53,5 @@ returns c = λ I message ours theirs bytes cols s timely u at ends says.
       | then-last w ↦ w.next-is ∙ cond-made 6 a.numbers.state w.if-last.true
       | else-last w ↦ w.next-is ∙ cond-kept 6 a.numbers.state w.if-last.false
     ] in
-    last-sends G s timely bytes u ends c.xor_into.new.acc (sum (goal.at.returns c).After-xor_into) c.same_hash.ensures c.if-last-same_hash.false at says
+    last_sends G s timely bytes u ends c.xor_into.new.acc (sum (goal.at.returns c).After-xor_into) c.same_hash.ensures c.if-last-same_hash.false at says
     c.send_done-sent.ensures next c.changed.ensures

@@ -5,7 +5,7 @@ use native.Mathlib.Omega.{arith}
 use lib.Seq.{length-take-le}
 use borrow.Author.Tests.{eq-eqb, ne_eqb}
 use Rattle.ledger.specs.Calls.{given}
-use Rattle.session.proofs.DoneLaws.{done-early, done-waits, done-differs, done-answers, done-ends}
+use Rattle.session.proofs.DoneLaws.{done-early, done-waits, done_differs, done_answers, done-ends}
 use Rattle.std.proofs.Common.{ap}
 use mathlib.Core.Bool.{not}
 use Rattle.session.proofs.ends.on_done.Goals as goal
@@ -30,14 +30,14 @@ pub returns-then-not-same_hash : goal.returns-then-not-same_hash
 returns-then-not-same_hash c = λ I hash ours theirs cols s timely count.
     let a = c.args in
     let G = given a.numbers a.table.now a.records.now a.marks.now I cols ours theirs hash a.message.now a.out.now in
-    done-differs G s timely a.unmet count c.if-numbers.false c.if-numbers-unmet.false c.checksum-check.result c.checksum-check.ensures
+    done_differs G s timely a.unmet count c.if-numbers.false c.if-numbers-unmet.false c.checksum-check.result c.checksum-check.ensures
     c.same_hash.ensures (ap not c.if-not-same_hash.true) c.aborted-then-not-same_hash.ensures
 
 pub returns-then-numbers-eq-PASSIVE : goal.returns-then-numbers-eq-PASSIVE
 returns-then-numbers-eq-PASSIVE c = λ I hash ours theirs cols s timely count.
     let a = c.args in
     let G = given a.numbers a.table.now a.records.now a.marks.now I cols ours theirs hash a.message.now a.out.now in
-    done-answers G s timely a.unmet count c.if-numbers.false c.if-numbers-unmet.false c.checksum-check.result c.checksum-check.ensures
+    done_answers G s timely a.unmet count c.if-numbers.false c.if-numbers-unmet.false c.checksum-check.result c.checksum-check.ensures
     c.same_hash.ensures (ap not c.if-not-same_hash.false) (eq-eqb a.numbers.state 3 c.if-numbers-eq-PASSIVE.true)
     c.send_done-sent.ensures c.changed-then-numbers-eq-PASSIVE.ensures
 

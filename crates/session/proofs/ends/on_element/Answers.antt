@@ -4,7 +4,7 @@ use Prim.Native.Nat.{◌*◌}
 use native.Mathlib.Omega.{arith}
 use lib.Seq.{length-take-le}
 use Rattle.ledger.specs.Calls.{given}
-use Rattle.session.proofs.ElementLaws.{element-wanted, last_now, says_now, element_unknown, element-quiet}
+use Rattle.session.proofs.ElementLaws.{element-wanted, last_now, says_now, element_unknown, element_quiet}
 use Rattle.session.proofs.ends.on_element.Goals as goal
 
 pub slice_bounds-unmet_place-end : goal.slice_bounds-unmet_place-end
@@ -32,4 +32,4 @@ returns c = λ I message ours theirs bytes cols s timely count all.
     let a = c.args in
     let G = given a.numbers a.table.now a.records.now a.marks.now I cols ours theirs a.hash.now message a.out.now in
     let (u, at) = element-wanted G s c.unmet_place-p.ensures c.if-p-ge-NOWHERE.false in
-    element-quiet G s timely bytes u at a.unmet a.came count all c.if-all-last.false c.changed.ensures
+    element_quiet G s timely bytes u at a.unmet a.came count all c.if-all-last.false c.changed.ensures

@@ -8,7 +8,7 @@ use Rattle.filter.proofs.PartLaws.{range-sound}
 use Rattle.ledger.proofs.FilterRoomLaws.{next_in_range}
 use Rattle.form.proofs.SendingLaws.{own_filter_there}
 use Rattle.ledger.specs.declared.numbers.Numbers.{Numbers}
-use Rattle.session.proofs.LastTurns.{last_untimely, last_misplaced, last_whole, last_stops, opens-ready, last-opens, swaps-ready, last-swaps}
+use Rattle.session.proofs.LastTurns.{last_untimely, last_misplaced, last_whole, last_stops, opens_ready, last_opens, swaps_ready, last_swaps}
 use Rattle.std.proofs.Common.{ap}
 use mathlib.Core.Bool.{not}
 use Rattle.session.proofs.filters.on_last.Goals as goal
@@ -42,7 +42,7 @@ returns-then-f c = last_stops c.requires c.read_whole-f.ensures (test_granted c.
     c.if-f.true c.aborted-then-f.ensures
 
 pub open-requires : goal.open-requires
-open-requires c = opens-ready c.requires c.read_whole-f.ensures c.if-f.false c.if-f-2.true
+open-requires c = opens_ready c.requires c.read_whole-f.ensures c.if-f.false c.if-f-2.true
 
 pub shape_of-marks-then-f-2 : goal.shape_of-marks-then-f-2
 shape_of-marks-then-f-2 c = c.open.auto.marks
@@ -69,11 +69,11 @@ pub shape_of-out-then-f-2 : goal.shape_of-out-then-f-2
 shape_of-out-then-f-2 c = c.open.auto.out
 
 pub returns-then-f-2 : goal.returns-then-f-2
-returns-then-f-2 c = last-opens c.requires c.read_whole-f.ensures c.if-f.false (test_granted c.admits_slice.ensures (ap not c.if-not-admits_slice.false)) (test_granted c.is_placed.ensures (ap not c.if-not-is_placed.false))
+returns-then-f-2 c = last_opens c.requires c.read_whole-f.ensures c.if-f.false (test_granted c.admits_slice.ensures (ap not c.if-not-admits_slice.false)) (test_granted c.is_placed.ensures (ap not c.if-not-is_placed.false))
     c.if-f-2.true c.open.ensures
 
 pub swapped-next-requires : goal.swapped-next-requires
-swapped-next-requires c = swaps-ready c.requires c.read_whole-f.ensures c.if-f.false c.if-f-2.false
+swapped-next-requires c = swaps_ready c.requires c.read_whole-f.ensures c.if-f.false c.if-f-2.false
 
 pub shape_of-ids : goal.shape_of-ids
 shape_of-ids c = c.read_whole-f.auto.ids
@@ -99,5 +99,5 @@ returns c = let a = c.args in
     let r = range-sound a.size a.salt c.requires.range in
     let sent = own_filter_there a.table.now next.result.size next.result.salt a.out.now c.requires.table-good
     (subst (λ (n : Numbers). in_range n.size n.salt ≡ true) (sym next.ensures) (next_in_range a.size a.salt r.least r.salt_in)) (omega (arith, c.requires.out-room)) c.send_filter-sent.ensures in
-    last-swaps c.requires c.read_whole-f.ensures c.if-f.false c.if-f-2.false (test_granted c.admits_slice.ensures (ap not c.if-not-admits_slice.false)) (test_granted c.is_placed.ensures (ap not c.if-not-is_placed.false))
+    last_swaps c.requires c.read_whole-f.ensures c.if-f.false c.if-f-2.false (test_granted c.admits_slice.ensures (ap not c.if-not-admits_slice.false)) (test_granted c.is_placed.ensures (ap not c.if-not-is_placed.false))
     next.ensures sent.0 sent.1

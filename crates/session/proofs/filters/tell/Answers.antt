@@ -21,18 +21,18 @@ few : (n : ℕ) (l : List ℕ) → n ≤ 4096 → length (take n l) ≤ 4096
 few n l h = omega (arith, h, length-take n l)
 
 -- the hashes of ours, and the messages that say them and the IDs
-abbrev hashes-of : (c : After-send_offers) → List ℕ
-hashes-of c = let a = c.args in
+abbrev hashes_of_ours : (c : After-send_offers) → List ℕ
+hashes_of_ours c = let a = c.args in
     hashes_at (hashes_of a.table.now) (ids_of first_eight a.table.now) (take a.a a.ours.now)
 
 listed : (c : After-send_offers)
-    → Sent (inquiries_of c.args.salt (take c.args.b c.args.theirs.now) ++ offers_of (hashes-of c)) c.args.out.now c.send_offers.new.out c.send_offers.result
+    → Sent (inquiries_of c.args.salt (take c.args.b c.args.theirs.now) ++ offers_of (hashes_of_ours c)) c.args.out.now c.send_offers.new.out c.send_offers.result
 listed c = let ids = take c.args.b c.args.theirs.now in
     let there = gathered-back c.args.table.now (take c.args.a c.args.ours.now) c.args.a (replicate 262144 0)
     (sym (length-take-le c.args.a c.args.ours.now c.requires.1))
     (omega (arith, c.requires.3, length-replicate {A = ℕ} 262144 0)) c.offer_all.ensures.1 in
-    sent_then (offers_of (hashes-of c)) (sent-first (inquiries_of c.args.salt ids) c.send_inquiries-next.ensures.0 c.send_inquiries-next.ensures.1)
-    (omega (arith, inquiries_room c.args.salt ids (few c.args.b c.args.theirs.now c.requires.4), offers-room (hashes-of c) (offered-few c.args.table.now c.args.ours.now c.args.a c.requires.3), c.requires.7))
+    sent_then (offers_of (hashes_of_ours c)) (sent-first (inquiries_of c.args.salt ids) c.send_inquiries-next.ensures.0 c.send_inquiries-next.ensures.1)
+    (omega (arith, inquiries_room c.args.salt ids (few c.args.b c.args.theirs.now c.requires.4), offers-room (hashes_of_ours c) (offered-few c.args.table.now c.args.ours.now c.args.a c.requires.3), c.requires.7))
     (c.send_offers.ensures.0 ∙ ap (λ (l : List ℕ). c.send_inquiries-next.result + length (layouts (offers_of l))) there)
     (c.send_offers.ensures.1 ∙ ap (λ (l : List ℕ). over c.send_inquiries-next.result (layouts (offers_of l)) c.send_inquiries-next.new.out) there)
 

@@ -10,8 +10,8 @@ use Rattle.session.proofs.places.place_of.Goals.{then-p-count+else-element_id-id
 use Rattle.session.proofs.places.place_of.Goals.{Joined-p-count}
 
 -- past the first search
-first-not : (c : Joined-p-count) → holds (ids_of first_eight c.args.table.now) c.args.id ≡ false
-first-not c = let a = c.args in
+first_not : (c : Joined-p-count) → holds (ids_of first_eight c.args.table.now) c.args.id ≡ false
+first_not c = let a = c.args in
     let s = c.id_position-p in
     elim c.if-p-count.branch [
       | then-p-count+else-element_id-id w ↦ not_found a.table.now a.id s.ensures c.count.ensures w.if-p-count.true w.element_id.ensures w.if-element_id-id.false
@@ -32,17 +32,17 @@ overflow_add-result c = let a = c.args in
 pub returns-then-element_id-id-2 : goal.returns-then-element_id-id-2
 returns-then-element_id-id-2 c = let a = c.args in
     let s = c.id_position-q in
-    place_second (ids_of first_eight a.table.now) (ids_of first_eight a.known.now) a.id (first-not (goal.at.returns-then-element_id-id-2 c).Joined-p-count)
+    place_second (ids_of first_eight a.table.now) (ids_of first_eight a.known.now) a.id (first_not (goal.at.returns-then-element_id-id-2 c).Joined-p-count)
     (found a.known.now a.id s.ensures c.count-2.ensures c.if-q-count.true c.element_id-then-q-count.ensures c.if-element_id-id-2.true)
     s.ensures
 
 pub returns-else-element_id-id-2 : goal.returns-else-element_id-id-2
 returns-else-element_id-id-2 c = let a = c.args in
     let s = c.id_position-q in
-    place_none (ids_of first_eight a.table.now) (ids_of first_eight a.known.now) a.id (first-not (goal.at.returns-else-element_id-id-2 c).Joined-p-count)
+    place_none (ids_of first_eight a.table.now) (ids_of first_eight a.known.now) a.id (first_not (goal.at.returns-else-element_id-id-2 c).Joined-p-count)
     (not_found a.known.now a.id s.ensures c.count-2.ensures c.if-q-count.true c.element_id-then-q-count.ensures c.if-element_id-id-2.false)
 
 pub returns-else-q-count : goal.returns-else-q-count
 returns-else-q-count c = let a = c.args in
-    place_none (ids_of first_eight a.table.now) (ids_of first_eight a.known.now) a.id (first-not (goal.at.returns-else-q-count c).Joined-p-count)
+    place_none (ids_of first_eight a.table.now) (ids_of first_eight a.known.now) a.id (first_not (goal.at.returns-else-q-count c).Joined-p-count)
     (not_found-past a.known.now a.id c.id_position-q.ensures c.count-2.ensures c.if-q-count.false)

@@ -10,16 +10,16 @@ use Rattle.session.specs.Steps.{screen_of}
 use mathlib.Core.Bool.{not}
 use Rattle.session.proofs.stepping.screened.Goals as goal
 
-screen-by : (state : ℕ) {k column : ℕ} {none timely : Bool} → k ≡ column → eqb k 7 ≡ none → entry state k ≡ timely
+screen_by : (state : ℕ) {k column : ℕ} {none timely : Bool} → k ≡ column → eqb k 7 ≡ none → entry state k ≡ timely
     → cond none 4 (cond timely 0 5) ≡ screen_of state column
 unfolding screen_of
-screen-by state {k = k} e a b = (λ i. cond (sym a i) 4 (cond (sym b i) 0 5)) ∙ ap (screen_of state) e
+screen_by state {k = k} e a b = (λ i. cond (sym a i) 4 (cond (sym b i) 0 5)) ∙ ap (screen_of state) e
 
 pub returns-then-k-eq-COLUMNS : goal.returns-then-k-eq-COLUMNS
-returns-then-k-eq-COLUMNS c = screen-by _ c.column-k.ensures (eq-eqb _ 7 c.if-k-eq-COLUMNS.true) refl
+returns-then-k-eq-COLUMNS c = screen_by _ c.column-k.ensures (eq-eqb _ 7 c.if-k-eq-COLUMNS.true) refl
 
 pub returns-then-not-admits : goal.returns-then-not-admits
-returns-then-not-admits c = screen-by _ c.column-k.ensures (ne_eqb _ 7 c.if-k-eq-COLUMNS.false) (test_refused c.admits.ensures (ap not c.if-not-admits.true))
+returns-then-not-admits c = screen_by _ c.column-k.ensures (ne_eqb _ 7 c.if-k-eq-COLUMNS.false) (test_refused c.admits.ensures (ap not c.if-not-admits.true))
 
 pub returns : goal.returns
-returns c = screen-by _ c.column-k.ensures (ne_eqb _ 7 c.if-k-eq-COLUMNS.false) (test_granted c.admits.ensures (ap not c.if-not-admits.false))
+returns c = screen_by _ c.column-k.ensures (ne_eqb _ 7 c.if-k-eq-COLUMNS.false) (test_granted c.admits.ensures (ap not c.if-not-admits.false))

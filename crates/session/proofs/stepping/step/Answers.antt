@@ -29,15 +29,15 @@ use Rattle.session.proofs.stepping.step.Goals as goal
 use Rattle.session.proofs.stepping.step.Goals.{After-early-refusal, Else-refusal-ne0}
 
 -- what the step is given, where the first refusal is known, and behind it
-abbrev givenFirst : After-early-refusal → Given
-givenFirst c = let a = c.args in given a.numbers a.table.now a.records.now a.marks.now a.inquired.now (columns a.ids.now a.hashes.now a.counts.now) a.ours.now a.theirs.now a.hash.now a.message.now a.out.now
+abbrev given_first : After-early-refusal → Given
+given_first c = let a = c.args in given a.numbers a.table.now a.records.now a.marks.now a.inquired.now (columns a.ids.now a.hashes.now a.counts.now) a.ours.now a.theirs.now a.hash.now a.message.now a.out.now
 
 abbrev given1 : Else-refusal-ne0 → Given
 given1 c = let a = c.args in given a.numbers a.table.now a.records.now a.marks.now a.inquired.now (columns a.ids.now a.hashes.now a.counts.now) a.ours.now a.theirs.now a.hash.now a.message.now a.out.now
 
-first-is : (c : After-early-refusal) → c.early-refusal.result ≡ early_in (givenFirst c)
-first-is c = c.early-refusal.ensures
-    ∙ ap₂ (λ (g r : Bool). early_of g r (givenFirst c).numbers.state) (ap (λ (t : Tally). t.good) c.judge-tally.ensures.1) c.has_room-roomy.ensures
+first_is : (c : After-early-refusal) → c.early-refusal.result ≡ early_in (given_first c)
+first_is c = c.early-refusal.ensures
+    ∙ ap₂ (λ (g r : Bool). early_of g r (given_first c).numbers.state) (ap (λ (t : Tally). t.good) c.judge-tally.ensures.1) c.has_room-roomy.ensures
 
 none_first : (c : Else-refusal-ne0) → early_in (given1 c) ≡ 0
 none_first c = sym (c.early-refusal.ensures
@@ -51,8 +51,8 @@ said_at : (c : Else-refusal-ne0) → step_said first_eight (exactly_one (given1 
 said_at c = said (given1 c) (none_first c)
 
 -- the tally is the definition's
-tally-at : (c : Else-refusal-ne0) → c.judge-tally.result ≡ tally_given (given1 c)
-tally-at c = c.judge-tally.ensures.1 ∙ tally_sound (given1 c) (none_first c)
+tally_at : (c : Else-refusal-ne0) → c.judge-tally.result ≡ tally_given (given1 c)
+tally_at c = c.judge-tally.ensures.1 ∙ tally_sound (given1 c) (none_first c)
 
 -- the kinds behind these two, by number, are no slices
 other : (m : Message) → OneOf (2 ∷ 3 ∷ 4 ∷ 5 ∷ 6 ∷ 7 ∷ []) (tag_of the_type m) → is_slice m ≡ false
@@ -66,9 +66,9 @@ other Done h = refl
 other Malformed h = refl
 
 pub returns-then-refusal-ne0 : goal.returns-then-refusal-ne0
-returns-then-refusal-ne0 c = let G = givenFirst (goal.at.returns-then-refusal-ne0 c).After-early-refusal in
+returns-then-refusal-ne0 c = let G = given_first (goal.at.returns-then-refusal-ne0 c).After-early-refusal in
     ap (λ (a : Answer). left a G.records G.marks G.inquired G.columns G.ours G.theirs G.out) c.refused.ensures
-    ∙ early-refused G (first-is (goal.at.returns-then-refusal-ne0 c).After-early-refusal) (ne_eqb _ 0 c.if-refusal-ne0.true)
+    ∙ early-refused G (first_is (goal.at.returns-then-refusal-ne0 c).After-early-refusal) (ne_eqb _ 0 c.if-refusal-ne0.true)
 
 pub on_slice-requires : goal.on_slice-requires
 on_slice-requires c = slice-lays (given1 (goal.at.on_slice-requires c).Else-refusal-ne0) (sound-at (goal.at.on_slice-requires c).Else-refusal-ne0) (ap is_slice (sym c.read.ensures ∙ c.in-Ibf.is))
@@ -78,7 +78,7 @@ on_last-requires c = last_ready (given1 (goal.at.on_last-requires c).Else-refusa
 
 pub on_ledger-requires : goal.on_ledger-requires
 on_ledger-requires c = let G = given1 (goal.at.on_ledger-requires c).Else-refusal-ne0 in
-    (subst (λ (t : Tally). InForm G.numbers G.table G.records G.marks G.inquired G.hash G.out t) (sym (tally-at (goal.at.on_ledger-requires c).Else-refusal-ne0)) (in_form G (sound-at (goal.at.on_ledger-requires c).Else-refusal-ne0)), sym c.read.ensures)
+    (subst (λ (t : Tally). InForm G.numbers G.table G.records G.marks G.inquired G.hash G.out t) (sym (tally_at (goal.at.on_ledger-requires c).Else-refusal-ne0)) (in_form G (sound-at (goal.at.on_ledger-requires c).Else-refusal-ne0)), sym c.read.ensures)
 
 pub returns-in-Ibf : goal.returns-in-Ibf
 returns-in-Ibf c = let G = given1 (goal.at.returns-in-Ibf c).Else-refusal-ne0 in
@@ -92,6 +92,6 @@ returns-in-IbfLast c = let G = given1 (goal.at.returns-in-IbfLast c).Else-refusa
 
 pub returns-in_default : goal.returns-in_default
 returns-in_default c = let G = given1 (goal.at.returns-in_default c).Else-refusal-ne0 in
-    c.on_ledger.ensures G.ours G.theirs G.columns (sound-at (goal.at.returns-in_default c).Else-refusal-ne0) (tally-at (goal.at.returns-in_default c).Else-refusal-ne0) (other c.read.result (opened c.in_default.in_default-own.keys3))
+    c.on_ledger.ensures G.ours G.theirs G.columns (sound-at (goal.at.returns-in_default c).Else-refusal-ne0) (tally_at (goal.at.returns-in_default c).Else-refusal-ne0) (other c.read.result (opened c.in_default.in_default-own.keys3))
     ∙ ap (λ (k : Message). step_said first_eight k G) c.read.ensures
     ∙ said_at (goal.at.returns-in_default c).Else-refusal-ne0
