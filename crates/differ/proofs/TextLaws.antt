@@ -2,12 +2,12 @@
 use mathlib.Core.Path.{◌≡◌, refl, sym, ap, ap₂, ◌∙◌, subst}
 use mathlib.Core.Bool.{Bool, true, false, cond}
 use mathlib.Core.List.{List, [], ◌∷◌, ◌++◌, append_assoc, append-nil}
-use Prim.Native.Nat.{ℕ, zero, suc, ◌+◌, ◌-◌, ◌*◌, ◌/◌, ◌^◌, ◌≤◌, ◌<◌, min}
+use Prim.Native.Nat.{ℕ, zero, suc, ◌+◌, ◌-◌, ◌*◌, ◌/◌, ◌^◌, ◌≤◌, ◌<◌}
 use native.Mathlib.Nat.{add_comm, zero-mul, suc-mul, mul-le-mul_right, pow-le-pow_right, div-lt_iff_lt-mul, le-div_iff_mul-le}
 use native.Mathlib.Numerals.{add-one}
 use native.Mathlib.Omega.{arith}
 use lib.Dec.{ltb}
-use lib.ListN.{length, take, get_or, length-append, length-take}
+use lib.ListN.{length, take, get_or, length-append}
 use lib.Seq.{take-suc, length-take-le}
 use borrow.Author.Tests.{ltb-true, ltb-false}
 use Rattle.io.specs.Digits.{last_digits, IsDigitCount}
@@ -123,12 +123,12 @@ lines_next label ids i h =
     ∙ lines-append label (take i ids) (get_or ids i 0 ∷ [])
     ∙ ap (λ (l : List ℕ). lines label (take i ids) ++ l) (append-nil (line label (get_or ids i 0)))
 
--- the lines of the first i IDs and one more are no longer than those of the first n
-pub lines-room : (label ids : List ℕ) (i n : ℕ) → i < n → i < length ids
-    → length (lines label (take i ids)) + length (line label (get_or ids i 0)) ≤ length (lines label (take n ids))
-lines-room label ids i n h k =
-    rw (lines-length label (take i ids), lines-length label (take n ids), line-length label (get_or ids i 0), length-take-le i ids (omega arith), length-take n ids)
-    (omega (arith, suc-mul i (length label + 17), mul-le-mul_right {m = suc i} {n = min n (length ids)} (length label + 17) (omega arith)))
+-- the lines of the first i IDs and one more are no longer than those of all
+pub lines-room : (label ids : List ℕ) (i : ℕ) → i < length ids
+    → length (lines label (take i ids)) + length (line label (get_or ids i 0)) ≤ length (lines label ids)
+lines-room label ids i k =
+    rw (lines-length label (take i ids), lines-length label ids, line-length label (get_or ids i 0), length-take-le i ids (omega arith))
+    (omega (arith, suc-mul i (length label + 17), mul-le-mul_right {m = suc i} {n = length ids} (length label + 17) (omega arith)))
 
 -- no text, one text for another, and one behind another
 pub writes_none : (at : ℕ) (l : List ℕ) → at ≤ length l → Writes at [] l at l

@@ -84,13 +84,7 @@ fn show(a: &[u8], b: &[u8], size: u32, out: &mut [u8]) -> usize
     if answer.refusal != 0 {
         return crate::text::put_refusal(out, answer.refusal);
     }
-    crate::text::put_listing(
-        out,
-        size,
-        answer.complete,
-        &ours,
-        answer.ours,
-        &theirs,
-        answer.theirs,
-    )
+    let a = answer.ours;
+    let b = answer.theirs;
+    crate::text::put_listing(out, size, answer.complete, &ours[..a], &theirs[..b])
 }

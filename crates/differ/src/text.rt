@@ -1,24 +1,21 @@
 // What the program prints, written into lent memory. A writer takes the position at which its text begins, and answers the one behind it.
-ghost use Rattle.std.specs.Prelude.{◌+◌, ◌≤◌, length, take};
+ghost use Rattle.std.specs.Prelude.{◌+◌, ◌≤◌, length};
 ghost use Rattle.differ.specs.Text.{decimal, hex16, line, lines, heading, listing, refusal, Writes};
 
-// The heading, then a line for each of the first a IDs of ours, then one for each of the first b of theirs.
+// The heading, then a line for each ID of ours, then one for each of theirs.
 pub(crate) fn put_listing(
     out: &mut [u8],
     size: u32,
     complete: u32,
     ours: &[u64],
-    a: usize,
     theirs: &[u64],
-    b: usize,
 ) -> usize
-    requires { (a ≤ length ours.now) × (b ≤ length theirs.now)
-        × (length (listing size complete (take a ours.now) (take b theirs.now)) ≤ length out.old) }
-    ensures { Writes 0 (listing size complete (take a ours.now) (take b theirs.now)) out.old result out.new }
+    requires { length (listing size complete ours.now theirs.now) ≤ length out.old }
+    ensures { Writes 0 (listing size complete ours.now theirs.now) out.old result out.new }
 {
     let p = put_heading(out, size, complete);
-    let q = put_lines(out, p, b"ours ", ours, a);
-    put_lines(out, q, b"theirs ", theirs, b)
+    let q = put_lines(out, p, b"ours ", ours);
+    put_lines(out, q, b"theirs ", theirs)
 }
 
 pub(crate) fn put_refusal(out: &mut [u8], n: u32) -> usize
@@ -41,16 +38,14 @@ fn put_heading(out: &mut [u8], size: u32, complete: u32) -> usize
     put_bytes(out, t, b"\n")
 }
 
-// A line for each of the first n IDs.
-fn put_lines(out: &mut [u8], at: usize, label: &[u8], ids: &[u64], n: usize) -> usize
-    requires { (n ≤ length ids.now) × (at + length (lines label.now (take n ids.now)) ≤ length out.old) }
-    ensures { Writes at (lines label.now (take n ids.now)) out.old result out.new }
+// A line for each ID.
+fn put_lines(out: &mut [u8], at: usize, label: &[u8], ids: &[u64]) -> usize
+    requires { at + length (lines label.now ids.now) ≤ length out.old }
+    ensures { Writes at (lines label.now ids.now) out.old result out.new }
 {
     let mut p = at;
-    let mut i = 0;
-    while i < n {
-        p = put_line(out, p, label, ids[i]);
-        i += 1;
+    for id in ids {
+        p = put_line(out, p, label, *id);
     }
     p
 }
@@ -86,10 +81,7 @@ fn put_bytes(out: &mut [u8], at: usize, text: &[u8]) -> usize
     requires { at + length text.now ≤ length out.old }
     ensures { Writes at text.now out.old result out.new }
 {
-    let mut i = 0;
-    while i < text.len() {
-        out[at + i] = text[i];
-        i += 1;
-    }
-    at + i
+    let end = at + text.len();
+    out[at..end].copy_from_slice(text);
+    end
 }

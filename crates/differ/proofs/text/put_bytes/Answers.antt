@@ -1,32 +1,16 @@
-use mathlib.Core.Path.{ap, ◌∙◌}
+-- `differ::text::put_bytes` meets its contract: the copied part is the text, laid over the memory. Assumes nothing.
+use mathlib.Core.Path.{refl, ap, ◌∙◌}
 use mathlib.Core.List.{List}
-use Prim.Native.Nat.{ℕ}
+use Prim.Native.Nat.{ℕ, ◌+◌, ◌-◌}
 use native.Mathlib.Omega.{arith}
-use lib.Seq.{take_all}
-use Rattle.bucket.specs.Lists.{over}
-use Rattle.bucket.proofs.OverLaws.{laid-start, laid-take}
+use lib.ListN.{length}
+use borrow.Rule.Slice.PartMut.{put_mid}
+use Rattle.bucket.proofs.OverLaws.{over-part, over-length}
 use Rattle.differ.proofs.text.put_bytes.Goals as goal
-
-pub loop-i-init : goal.loop-i-init
-loop-i-init c = (omega arith, laid-start c.args.at c.args.out.now)
-
-pub bounds-out-at : goal.bounds-out-at
-bounds-out-at c = omega arith
-
-pub loop-i-preserved : goal.loop-i-preserved
-loop-i-preserved c = let a = c.args in
-    let at = c.loop-i in
-    (omega arith, laid-take a.text.now 0 at.invariant.1 (omega arith) (omega arith))
-
-pub shape_of-out : goal.shape_of-out
-shape_of-out c = c.loop-i.invariant.1.same
 
 pub returns : goal.returns
 returns c = let a = c.args in
-    let at = c.loop-i in
-    record {
-      next = omega arith;
-      within = omega arith;
-      same = at.invariant.1.same;
-      laid = at.invariant.1.laid ∙ ap (λ (t : List ℕ). over a.at t a.out.now) (take_all at.i a.text.now (omega arith));
-    }
+    let e = a.at + length a.text.now in
+    let laid = ap (λ (t : List ℕ). put_mid a.at (e - a.at) a.out.now t) c.copy_from_slice.ensures.after ∙ over-part a.at e a.text.now a.out.now refl in
+    let same = ap length laid ∙ over-length a.at a.out.now a.text.now c.requires in
+    record { next = refl; within = omega (arith, same, c.requires); same = same; laid = laid }
