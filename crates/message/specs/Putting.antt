@@ -9,7 +9,7 @@
 --   lay_buckets ..           the buckets that stand in a message's bytes laid into columns, as refusal 2 allows
 --
 -- Assumes nothing.
-use Rattle.std.specs.Prelude.{◌≡◌, true, cond, List, [], ◌∷◌, ◌++◌, map, ℕ, ◌+◌, ◌*◌, ◌≤◌, ltb, pos, length, take}
+use Rattle.std.specs.Prelude.{◌≡◌, true, cond, List, [], ◌∷◌, ◌++◌, map, ℕ, ◌+◌, ◌*◌, ◌≤◌, leb, ltb, pos, length, take}
 use Rattle.bucket.specs.Columns.{Columns, columns}
 use Rattle.bucket.specs.Digits.{packed, unpacked}
 use Rattle.bucket.specs.Lists.{over, part}
@@ -19,6 +19,10 @@ use Rattle.filter.specs.Calls.{has_room}
 use Rattle.message.specs.Laying.{Lay, lay}
 use Rattle.message.specs.Layout.{Content, layout, framed, in_slice, slice_bytes}
 use Rattle.message.specs.Writing.{messages}
+
+-- the bytes of item i of those of k bytes each that stand in bs from a position on
+unfoldable pub item_in : ℕ → ℕ → List ℕ → ℕ → List ℕ
+item_in k from bs i = cond (leb (from + k * i + k) (length bs)) (part (from + k * i) k bs) []
 
 unfoldable pub end_to_end : (List ℕ → List ℕ) → List (List ℕ) → List ℕ
 end_to_end say [] = []

@@ -7,7 +7,7 @@ ghost use Rattle.message.specs.Writing.{write, filter_call, largest, width_for};
 ghost use Rattle.message.specs.Putting.{filter_bytes};
 
 use crate::kinds::Wrote;
-use crate::slices::SECOND;
+use crate::slices::MOST_BUCKETS;
 use filter::answers::Refusal;
 
 // The filter in the first size places of three columns, from a position of a lent buffer, at the smallest width for all of it; answers the next
@@ -77,8 +77,8 @@ fn filter_bytes(width: u32, size: u32) -> usize
     ensures { result ≡ filter_bytes width size }
 {
     let first = crate::slices::slice_bytes(width, crate::slices::in_slice(size, 0));
-    if SECOND < size {
-        return first + crate::slices::slice_bytes(width, crate::slices::in_slice(size, SECOND));
+    if MOST_BUCKETS < size {
+        return first + crate::slices::slice_bytes(width, crate::slices::in_slice(size, MOST_BUCKETS));
     }
     first
 }
