@@ -6,7 +6,7 @@ ghost use Rattle.message.specs.Layout.{inquiry, layout, framed, in_slice, slice_
 ghost use Rattle.message.specs.Writing.{slice_at, layouts, slices_of};
 ghost use Rattle.message.specs.Putting.{head_of, SlicePut, FilterPut, filter_bytes};
 
-use crate::slices::MOST_BUCKETS;
+use crate::slices::SECOND;
 
 // MSG SIZE and MSG TYPE before bytes that are copied.
 pub(crate) fn put_framed(kind: u32, bytes: &[u8], from: usize, k: usize, out: &mut [u8], at: usize)
@@ -89,8 +89,8 @@ pub(crate) fn put_filter(
         × (out.new ≡ over at (layouts (slices_of size salt width (columns ids.now hashes.now counts.now))) out.old) }
 {
     let next = put_slice(ids, hashes, counts, size, 0, salt, width, out, at);
-    if MOST_BUCKETS < size {
-        return put_slice(ids, hashes, counts, size, MOST_BUCKETS, salt, width, out, next);
+    if SECOND < size {
+        return put_slice(ids, hashes, counts, size, SECOND, salt, width, out, next);
     }
     next
 }

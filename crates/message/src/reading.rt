@@ -80,7 +80,7 @@ fn slice_fits(kind: u32, size: u32, offset: u32, salt: u32, width: u32, len: usi
     let n = crate::slices::in_slice(size, offset);
     (37 <= size)
         & (size <= 4096)
-        & ((offset == 0) | (offset == crate::slices::MOST_BUCKETS))
+        & ((offset == 0) | (offset == crate::slices::SECOND))
         & (offset < size)
         & (salt < 64)
         & (1 <= width)

@@ -4,8 +4,11 @@ ghost use Rattle.message.specs.Layout.{in_slice, slice_type, slice_bytes};
 
 use crate::kinds::{IBF, IBF_LAST};
 
-// The most buckets of a slice (document 01, after 002: 32,768 / 13), and so the offset of a second one.
+// The most buckets of a slice (document 01, after 002: 32,768 / 13).
 pub(crate) const MOST_BUCKETS: u32 = 2520;
+
+// The offset of a second slice, which begins where a full one ends.
+pub(crate) const SECOND: u32 = MOST_BUCKETS;
 
 // How many buckets the slice at an offset has.
 pub(crate) fn in_slice(size: u32, offset: u32) -> usize
