@@ -6,25 +6,32 @@ ghost use Rattle.message.specs.Layout.{inquiry, layout, framed, in_slice, slice_
 ghost use Rattle.message.specs.Writing.{slice_at, layouts, slices_of};
 ghost use Rattle.message.specs.Putting.{head_of, SlicePut, FilterPut, filter_bytes};
 
+use crate::copying::{put_numbers, put_pair};
 use crate::slices::SECOND;
 
-// MSG SIZE and MSG TYPE before bytes that are copied.
-pub(crate) fn put_framed(kind: u32, bytes: &[u8], from: usize, k: usize, out: &mut [u8], at: usize)
-    requires { (from + k ≤ length bytes.now) × (at + 4 + k ≤ length out.old) }
-    ensures { out.new ≡ over at (framed kind (part from k bytes.now)) out.old }
+// MSG SIZE and MSG TYPE before bytes that are copied; answers the position behind them.
+pub(crate) fn put_framed(kind: u32, bytes: &[u8], out: &mut [u8], at: usize) -> usize
+    requires { at + 4 + length bytes.now ≤ length out.old }
+    ensures next { result ≡ at + (4 + length bytes.now) }
+    ensures put { out.new ≡ over at (framed kind bytes.now) out.old }
 {
-    crate::copying::put_pair(out, at, 2, (4 + k) as u64, kind as u64);
-    crate::copying::copy(bytes, from, k, out, at + 4);
+    let next = at + (4 + bytes.len());
+    put_pair(out, at, 2, (4 + bytes.len()) as u64, u64::from(kind));
+    out[at + 4..next].copy_from_slice(bytes);
+    next
 }
 
-// One INQUIRY of n IDs.
-pub(crate) fn put_inquiry(ids: &[u64], from: usize, n: usize, salt: u32, out: &mut [u8], at: usize)
-    requires { (from + n ≤ length ids.now) × (at + 8 + 8 * n ≤ length out.old) }
-    ensures { out.new ≡ over at (layout (inquiry salt (part from n ids.now))) out.old }
+// One INQUIRY of the IDs; answers the position behind it.
+pub(crate) fn put_inquiry(ids: &[u64], salt: u32, out: &mut [u8], at: usize) -> usize
+    requires { at + 8 + 8 * length ids.now ≤ length out.old }
+    ensures next { result ≡ at + (8 + 8 * length ids.now) }
+    ensures put { out.new ≡ over at (layout (inquiry salt ids.now)) out.old }
 {
-    crate::copying::put_pair(out, at, 2, (8 + 8 * n) as u64, crate::kinds::INQUIRY as u64);
-    bucket::bytes::put_number(out, at + 4, 4, salt as u64);
-    crate::copying::put_ids(ids, from, n, out, at + 8);
+    let size = 8 + 8 * ids.len();
+    put_pair(out, at, 2, size as u64, u64::from(crate::kinds::INQUIRY));
+    bucket::bytes::put_number(out, at + 4, 4, u64::from(salt));
+    put_numbers(ids, out, at + 8);
+    at + size
 }
 
 // The sixteen bytes before a slice's columns.
@@ -41,9 +48,9 @@ pub(crate) fn put_head(
     requires { at + 16 ≤ length out.old }
     ensures { out.new ≡ over at (head_of total kind size offset salt width) out.old }
 {
-    crate::copying::put_pair(out, at, 2, total as u64, kind as u64);
-    crate::copying::put_pair(out, at + 4, 4, size as u64, offset as u64);
-    crate::copying::put_pair(out, at + 12, 2, salt as u64, width as u64);
+    put_pair(out, at, 2, total as u64, u64::from(kind));
+    put_pair(out, at + 4, 4, u64::from(size), u64::from(offset));
+    put_pair(out, at + 12, 2, u64::from(salt), u64::from(width));
 }
 
 // The slice at an offset of a filter in three columns; answers the position behind it.
@@ -68,8 +75,8 @@ pub(crate) fn put_slice(
     let to = from + n;
     let total = crate::slices::slice_bytes(width, n);
     put_head(out, at, total, kind, size, offset, salt, width);
-    crate::copying::put_ids(ids, from, n, out, at + 16);
-    crate::copying::put_hashes(hashes, from, n, out, at + 16 + 8 * n);
+    put_numbers(&ids[from..to], out, at + 16);
+    put_numbers(&hashes[from..to], out, at + 16 + 8 * n);
     bucket::packing::pack(&counts[from..to], width, out, at + 16 + 12 * n)
 }
 
