@@ -59,14 +59,16 @@ impl Number for u32 {
     }
 }
 
-// Numbers one behind the other.
-pub(crate) fn put_numbers<T: Number>(xs: &[T], out: &mut [u8], at: usize)
+// Numbers one behind the other; answers the position behind them.
+pub(crate) fn put_numbers<T: Number>(xs: &[T], out: &mut [u8], at: usize) -> usize
     requires { at + T.BYTES * length xs.now ≤ length out.old }
-    ensures { out.new ≡ over at (packed (8 * T.BYTES) (map T.value xs.now)) out.old }
+    ensures next { result ≡ at + T.BYTES * length xs.now }
+    ensures put { out.new ≡ over at (packed (8 * T.BYTES) (map T.value xs.now)) out.old }
 {
     for (j, x) in xs.iter().enumerate() {
         bucket::bytes::put_number(out, at + T::BYTES * j, T::BYTES, x.number());
     }
+    at + T::BYTES * xs.len()
 }
 
 // Two numbers of k bytes.

@@ -7,9 +7,9 @@ ghost use Rattle.filter.specs.Calls.{all_counts};
 ghost use Rattle.message.specs.Writing.{write, filter_call, largest};
 ghost use Rattle.message.specs.Putting.{filter_bytes};
 
-use bucket::packing::number_of;
 use crate::kinds::Wrote;
 use crate::slices::{SECOND, in_slice, slice_bytes};
+use bucket::packing::number_of;
 use filter::answers::Refusal;
 
 // The filter in the first size places of three columns, from a position of a lent buffer, at the smallest width for all of it; answers the next

@@ -13,10 +13,10 @@ loop-j-preserved g c =
     let x = c.index-xs-j in
     let there = c.loop-j-test.true in
     let one : c.number.result ≡ get_or (map value xs) c.loop-j.j 0 =
-        c.number.ensures ∙ ap value x.is ∙ sym (get_or-map value xs c.loop-j.j x.result 0 there) in
+    c.number.ensures ∙ ap value x.is ∙ sym (get_or-map value xs c.loop-j.j x.result 0 there) in
     put_next g.T.Number.BYTES c.args.at (map value xs) c.args.out.now c.loop-j.invariant g.met.T.Number.few
     (rw length-map there) (rw length-map c.requires)
     (rw (c.BYTES.ensures, c.BYTES-in-loop-j.ensures, one) at c.put_number.ensures)
 
-pub returns : goal.returns
-returns g c = put-end _ _ _ _ c.loop-j.invariant (rw length-map c.loop-j-test.false)
+pub returns-clause-put : goal.returns-clause-put
+returns-clause-put g c = put-end _ _ _ _ c.loop-j.invariant (rw length-map c.loop-j-test.false)

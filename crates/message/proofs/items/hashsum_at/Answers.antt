@@ -16,6 +16,6 @@ pub returns-else-n : goal.returns-else-n
 unfolding hashsum_at
 returns-else-n c =
     elim c.else-n.branch [
-      else-n-via-then-n+else-i-n w ↦ rw (le-leb _ 2520 w.if-n.true, le-ltb _ _ w.if-i-n.false)
-    | else-n-via-else-n w ↦ rw (lt-leb _ 2520 w.if-n.false)
+      | else-n-via-then-n+else-i-n w ↦ rw (le-leb _ 2520 w.if-n.true, le-ltb _ _ w.if-i-n.false)
+      | else-n-via-else-n w ↦ rw (lt-leb _ 2520 w.if-n.false)
     ]

@@ -16,9 +16,9 @@ pub returns-in_default : goal.returns-in_default
 returns-in_default c = let a = c.args in
     item-past a.k a.from a.s.now a.i
     (elim c.in_default.branch [
-      in_default-via-in-Some+else-i-items w ↦
-        let got = w.in-Some.ensures.lookup.0 in
-        let short = items_past c.requires w.if-i-items.false in
-        omega arith
-    | in_default-via-in_default w ↦ let behind = w.in_default.ensures.lookup.0 in omega arith
+      | in_default-via-in-Some+else-i-items w ↦
+          let got = w.in-Some.ensures.lookup.0 in
+          let short = items_past c.requires w.if-i-items.false in
+          omega arith
+      | in_default-via-in_default w ↦ let behind = w.in_default.ensures.lookup.0 in omega arith
     ])
