@@ -9,10 +9,10 @@ use native.Mathlib.Numerals.{add-one}
 use native.Mathlib.Omega.{arith}
 use lib.Dec.{leb}
 use lib.ListN.{length, take, drop, length-append, length-take, length-drop}
-use lib.Seq.{drop-drop, drop-nil}
+use lib.Seq.{drop-nil, take-append_seam, drop-append_seam}
 use borrow.Author.Tests.{leb-true, leb-false}
-use Rattle.bucket.specs.Lists.{over, part}
-use Rattle.bucket.proofs.OverLaws.{over-nil, over-over, part-min, part_length}
+use Rattle.bucket.specs.Lists.{over}
+use Rattle.bucket.proofs.OverLaws.{over-nil, over-length, over-over, part-min}
 use Rattle.message.specs.Layout.{Content, layout}
 use Rattle.message.specs.Writing.{layouts, messages, pieces, pieces_of}
 use Rattle.message.specs.Putting.{cut_bytes, end_to_end}
@@ -95,62 +95,56 @@ module _ (k : ℕ) (say : List ℕ → List ℕ) (some : 1 ≤ k) where
             rest : length (drop n (x ∷ l)) ≡ suc (length l) - n
             rest = length-drop n (x ∷ l)
 
--- ---- the state of a loop: what is left from i on, written from p on, gives the whole
+-- ---- the state of a loop: what is left of l, written from p on, gives the whole
 
-pub record Cutting (k h b : ℕ) (say : List ℕ → List ℕ) (at : ℕ) (l out₀ out : List ℕ) (p i : ℕ) : Type 0 where
-  pub inside : i ≤ length l
+pub record Cutting (k h b : ℕ) (say : List ℕ → List ℕ) (at : ℕ) (l out₀ out : List ℕ) (p : ℕ) (rest : List ℕ) : Type 0 where
   pub same : length out ≡ length out₀
-  pub room : p + cut_bytes k h b (length l - i) ≤ length out
-  pub left : over p (end_to_end say (pieces k (drop i l))) out ≡ over at (end_to_end say (pieces k l)) out₀
+  pub room : p + cut_bytes k h b (length rest) ≤ length out
+  pub left : over p (end_to_end say (pieces k rest)) out ≡ over at (end_to_end say (pieces k l)) out₀
 
-pub cutting_start : (k h b : ℕ) (say : List ℕ → List ℕ) (at : ℕ) (l out : List ℕ) → at + cut_bytes k h b (length l) ≤ length out → Cutting k h b say at l out out at 0
-cutting_start k h b say at l out room = record { inside = omega arith; same = refl; room = rw all room; left = refl }
-  where
-    all : length l - 0 ≡ length l
-    all = omega arith
+pub cutting_start : (k h b : ℕ) (say : List ℕ → List ℕ) (at : ℕ) (l out : List ℕ) → at + cut_bytes k h b (length l) ≤ length out → Cutting k h b say at l out out at l
+cutting_start k h b say at l out room = record { same = refl; room = room; left = refl }
 
-module _ {k h b : ℕ} {say : List ℕ → List ℕ} {at : ℕ} {l out₀ out : List ℕ} {p i : ℕ} (c : Cutting k h b say at l out₀ out p i) (some : 1 ≤ k) where
-  -- one message more
-  pub cutting_next : ((l : List ℕ) → length (say l) ≡ h + b * length l) → {out' : List ℕ} (n : ℕ) → i < length l → n ≡ min k (length l - i) → length out' ≡ length out
-      → out' ≡ over p (say (part i n l)) out → Cutting k h b say at l out₀ out' (p + (h + b * n)) (i + n)
-  cutting_next sized {out'} n z e len o =
-      record {
-        inside = omega arith;
-        same = len ∙ c.same;
-        room = rw len fits;
-        left =
-            ap₂ (λ (q : ℕ) (m : List ℕ). over q (end_to_end say (pieces k (drop (i + n) l))) m) (ap (λ (q : ℕ). p + q) (sym size)) o
-            ∙ over-over p out (say (part i n l)) (end_to_end say (pieces k (drop (i + n) l))) room
-            ∙ ap (λ (q : List ℕ). over p q out) (sym whole)
-            ∙ c.left;
-      }
-    where
-      rest : length (drop i l) ≡ length l - i
-      rest = length-drop i l
+module _ {k h b : ℕ} {say : List ℕ → List ℕ} {at : ℕ} {l out₀ out : List ℕ} {p : ℕ} {rest : List ℕ} (some : 1 ≤ k) (c : Cutting k h b say at l out₀ out p rest) where
+  module _ (a behind : List ℕ) (cut : rest ≡ a ++ behind) (e : length a ≡ min k (length rest)) (z : zero < length rest) where
+    -- room for one message, and the rest
+    pub cutting_room : p + (h + b * length a) + cut_bytes k h b (length behind) ≤ length out
+    cutting_room =
+        let more = cut-bytes-more k h b (length rest) (length a) some z e in
+        let less : length behind ≡ length rest - length a = omega (arith, ap length cut ∙ length-append a behind) in
+        rw less (sums p (h + b * length a) _ _ _ more c.room)
+      where
+        sums : (p x y z o : ℕ) → z ≡ x + y → p + z ≤ o → p + x + y ≤ o
+        sums p x y z o e f = omega arith
 
-      size : length (say (part i n l)) ≡ h + b * n
-      size = sized (part i n l) ∙ ap (λ (m : ℕ). h + b * m) (part_length i l n (omega arith))
+    -- one message more
+    pub cutting_next : ((l : List ℕ) → length (say l) ≡ h + b * length l) → {out' : List ℕ} {p' : ℕ} → p' ≡ p + (h + b * length a) → out' ≡ over p (say a) out
+        → Cutting k h b say at l out₀ out' p' behind
+    cutting_next sized {out'} ep o =
+        record {
+          same = same ∙ c.same;
+          room = rw (same, ep) cutting_room;
+          left =
+              ap₂ (λ (q : ℕ) (m : List ℕ). over q (end_to_end say (pieces k behind)) m) (ep ∙ ap (λ (q : ℕ). p + q) (sym (sized a))) o
+              ∙ over-over p out (say a) (end_to_end say (pieces k behind)) (rw (sized a, cut-length k say some h b sized) cutting_room)
+              ∙ ap (λ (q : List ℕ). over p q out) (sym whole)
+              ∙ c.left;
+        }
+      where
+        same : length out' ≡ length out
+        same = ap length o ∙ over-length p out (say a) (omega (arith, sized a, cutting_room))
 
-      whole : end_to_end say (pieces k (drop i l)) ≡ say (part i n l) ++ end_to_end say (pieces k (drop (i + n) l))
-      whole =
-          cut_step k say some (drop i l) n (omega (arith, rest)) (omega (arith, rest))
-          ∙ ap (λ (q : List ℕ). say (part i n l) ++ end_to_end say (pieces k q)) (drop-drop n i l)
+        first : take (length a) rest ≡ a
+        first = ap (take (length a)) cut ∙ take-append_seam a behind
 
-      fits : p + (h + b * n) + cut_bytes k h b (length l - (i + n)) ≤ length out
-      fits =
-          let more = cut-bytes-more k h b (length l - i) n some (omega arith) e in
-          let less : length l - (i + n) ≡ length l - i - n = omega arith in
-          rw less (sums p (h + b * n) _ _ _ more c.room)
-        where
-          sums : (p x y z o : ℕ) → z ≡ x + y → p + z ≤ o → p + x + y ≤ o
-          sums p x y z o e f = omega arith
+        others : drop (length a) rest ≡ behind
+        others = ap (drop (length a)) cut ∙ drop-append_seam a behind
 
-      room : p + length (say (part i n l)) + length (end_to_end say (pieces k (drop (i + n) l))) ≤ length out
-      room = rw (size, cut-length k say some h b sized, length-drop) fits
+        whole : end_to_end say (pieces k rest) ≡ say a ++ end_to_end say (pieces k behind)
+        whole = cut_step k say some rest (length a) z e ∙ ap₂ (λ (x y : List ℕ). say x ++ end_to_end say (pieces k y)) first others
 
-  pub cutting_end : length l ≤ i → out ≡ over at (end_to_end say (pieces k l)) out₀
-  cutting_end z =
-      sym (ap (λ (q : List ℕ). over p q out) (cut-none k say some (drop i l) (length-drop i l ∙ omega arith)) ∙ over-nil p out) ∙ c.left
+  pub cutting_end : length rest ≡ zero → out ≡ over at (end_to_end say (pieces k l)) out₀
+  cutting_end z = sym (ap (λ (q : List ℕ). over p q out) (cut-none k say some rest z) ∙ over-nil p out) ∙ c.left
 
 -- ---- messages end to end
 

@@ -18,6 +18,7 @@ use Rattle.bucket.proofs.OverLaws.{then_over, part_length}
 use Rattle.bucket.proofs.PackedLaws.{packed-length}
 use Rattle.bucket.proofs.RoomLaws.{takes-rest}
 use Rattle.bucket.proofs.TestLaws.{and_holds, cond-made}
+use Rattle.message.specs.declared.kinds.Slice.{Slice}
 use Rattle.message.specs.Layout.{slice, layout, framed, in_slice, slice_type, slice_bytes}
 use Rattle.message.specs.Writing.{layouts, slice_at, slices_of}
 use Rattle.message.specs.Putting.{head_of, filter_bytes, SlicePut, FilterPut}
@@ -26,11 +27,12 @@ use Rattle.message.proofs.FrameLaws.{framed-length}
 
 -- ---- the bytes of one slice
 
-head-length : (total type size offset salt width : ℕ) → length (head_of total type size offset salt width) ≡ 16
+head-length : (s : Slice) → length (head_of s) ≡ 16
 unfolding head_of
-head-length total type size offset salt width =
+head-length s =
     simp length-append
-    (ap₂ ◌+◌ (whole_length 2 (total ∷ type ∷ [])) (ap₂ ◌+◌ (whole_length 4 (size ∷ offset ∷ [])) (whole_length 2 (salt ∷ width ∷ []))))
+    (ap₂ ◌+◌ (whole_length 2 (slice_bytes s.width s.count ∷ slice_type s.size s.offset ∷ []))
+    (ap₂ ◌+◌ (whole_length 4 (s.size ∷ s.offset ∷ [])) (whole_length 2 (s.salt ∷ s.width ∷ []))))
 
 module _ (size offset salt width n : ℕ) (ids hashes counts : List ℕ) (li : length ids ≡ n) (lh : length hashes ≡ n) (lc : length counts ≡ n) where
   body_length : length (packed 32 (size ∷ offset ∷ []) ++ (packed 16 (salt ∷ width ∷ []) ++ (packed 64 ids ++ (packed 32 hashes ++ packed width counts))))
@@ -48,7 +50,7 @@ module _ (size offset salt width n : ℕ) (ids hashes counts : List ℕ) (li : l
   slice-size = framed-length (slice_type size offset) _ ∙ omega (arith, body_length)
 
   -- in the order in which they are written
-  pub slice-bytes : ((head_of (slice_bytes width n) (slice_type size offset) size offset salt width ++ packed 64 ids) ++ packed 32 hashes) ++ packed width counts
+  pub slice-bytes : ((head_of (record { size = size; offset = offset; salt = salt; width = width; count = n }) ++ packed 64 ids) ++ packed 32 hashes) ++ packed width counts
       ≡ layout (slice size offset salt width ids hashes counts)
   unfolding layout framed head_of
   slice-bytes =
@@ -93,95 +95,89 @@ module _ (w at k n : ℕ) (inside : at + k ≤ n) where
 
 -- ---- one slice put into a buffer
 
-module _ (size offset salt width at : ℕ) (c : Columns) (o₀ : List ℕ) (put : SlicePut size offset width c o₀ at) {n : ℕ} (en : n ≡ in_slice size offset) where
-  few : n ≤ 2520
+module _ (s : Slice) (at : ℕ) (c : Columns) (o₀ : List ℕ) (put : SlicePut s.size s.offset s.width c o₀ at) (en : s.count ≡ in_slice s.size s.offset) where
+  few : s.count ≤ 2520
   few = omega (arith, en)
 
-  inside : offset + n ≤ size
-  inside = omega (arith, en, put.within)
+  pub slice-inside : s.offset + s.count ≤ s.size
+  slice-inside = omega (arith, en, put.within)
 
-  ids-size : length (part offset n c.idsums) ≡ n
-  ids-size = part_length offset c.idsums n (omega (arith, inside, put.ids-there))
+  pub slice-ids : length (part s.offset s.count c.idsums) ≡ s.count
+  slice-ids = part_length s.offset c.idsums s.count (omega (arith, slice-inside, put.ids-there))
 
-  hashes-size : length (part offset n c.hashsums) ≡ n
-  hashes-size = part_length offset c.hashsums n (omega (arith, inside, put.hashes-there))
+  pub slice-hashes : length (part s.offset s.count c.hashsums) ≡ s.count
+  slice-hashes = part_length s.offset c.hashsums s.count (omega (arith, slice-inside, put.hashes-there))
 
-  counts-size : length (part offset n c.counts) ≡ n
-  counts-size = part_length offset c.counts n (omega (arith, inside, put.counts-there))
+  counts-size : length (part s.offset s.count c.counts) ≡ s.count
+  counts-size = part_length s.offset c.counts s.count (omega (arith, slice-inside, put.counts-there))
 
-  numbers-size : length (numbers (part offset n c.counts)) ≡ n
-  numbers-size = length-map (part offset n c.counts) number ∙ counts-size
+  numbers-size : length (numbers (part s.offset s.count c.counts)) ≡ s.count
+  numbers-size = length-map (part s.offset s.count c.counts) number ∙ counts-size
 
-  slice-room : at + slice_bytes width n ≤ length o₀
+  pub slice-room : at + slice_bytes s.width s.count ≤ length o₀
   slice-room = rw en put.room
 
-  -- the counts fit their width, and there is room for them
-  slice-packs : (o : List ℕ) → length o ≡ length o₀ → packs width (part offset n c.counts) (at + 16 + 12 * n) o ≡ true
-  slice-packs o same =
-      and_holds (fits-part width offset n size inside c.counts put.counts-fit)
-      (ap (λ (k : ℕ). takes width k (at + 16 + 12 * n) (length o)) counts-size
-      ∙ takes-rest width n (at + 16 + 12 * n) (length o) put.some put.most (omega (arith, few))
-      ∙ le-leb (at + 16 + 12 * n + bytes_for (width * n)) (length o) (omega (arith, slice-room, same)))
+  abbrev behind : ℕ
+  behind = at + 16 + 12 * s.count
 
-  -- four writes, one behind the other; cs is the part that was packed, and r where it ends
-  pub slice_writes : {total kind r : ℕ} {o₁ o₂ o₃ o₄ : List ℕ} {cs : List ℤ} → kind ≡ slice_type size offset → total ≡ slice_bytes width n
-      → cs ≡ part offset n c.counts → length o₃ ≡ length o₀
-      → o₁ ≡ over at (head_of total kind size offset salt width) o₀
-      → o₂ ≡ over (at + 16) (packed 64 (part offset n c.idsums)) o₁
-      → o₃ ≡ over (at + 16 + 8 * n) (packed 32 (part offset n c.hashsums)) o₂
-      → (r ≡ pack_end width cs (at + 16 + 12 * n) o₃) × (o₄ ≡ pack_into width cs (at + 16 + 12 * n) o₃)
-      → (r ≡ at + slice_bytes width (in_slice size offset)) × (o₄ ≡ over at (layout (slice_at size offset salt width c)) o₀)
+  -- the counts fit their width, and there is room for them
+  slice-packs : (o : List ℕ) → length o ≡ length o₀ → packs s.width (part s.offset s.count c.counts) behind o ≡ true
+  slice-packs o same =
+      and_holds (fits-part s.width s.offset s.count s.size slice-inside c.counts put.counts-fit)
+      (ap (λ (k : ℕ). takes s.width k behind (length o)) counts-size
+      ∙ takes-rest s.width s.count behind (length o) put.some put.most (omega (arith, few))
+      ∙ le-leb (behind + bytes_for (s.width * s.count)) (length o) (omega (arith, slice-room, same)))
+
+  -- four writes, one behind the other, the last from p on; cs is the part that was packed, and r where it ends
+  pub slice_writes : {p r : ℕ} {o₁ o₂ o₃ o₄ : List ℕ} {cs : List ℤ} → cs ≡ part s.offset s.count c.counts → length o₃ ≡ length o₀
+      → o₁ ≡ over at (head_of s) o₀
+      → o₂ ≡ over (at + 16) (packed 64 (part s.offset s.count c.idsums)) o₁
+      → o₃ ≡ over (at + 16 + 8 * s.count) (packed 32 (part s.offset s.count c.hashsums)) o₂
+      → p ≡ behind
+      → (r ≡ pack_end s.width cs p o₃) × (o₄ ≡ pack_into s.width cs p o₃)
+      → (r ≡ at + slice_bytes s.width (in_slice s.size s.offset)) × (o₄ ≡ over at (layout (slice_at s.size s.offset s.salt s.width c)) o₀)
   unfolding pack_end pack_into
-  slice_writes {total} {kind} {r} {o₁} {o₂} {o₃} {o₄} {cs} ek et cut same w1 w2 w3 w4 = (
+  slice_writes {p} {r} {o₁} {o₂} {o₃} {o₄} {cs} cut same w1 w2 w3 ep w4 = (
     w4.0
-        ∙ sym (cond-made (p + bytes_for (width * length cs)) p ready)
-        ∙ ap (λ (m : ℕ). p + bytes_for (width * m)) (ap length cut ∙ counts-size)
-        ∙ ap (λ (m : ℕ). at + 16 + 12 * m + bytes_for (width * m)) en
+        ∙ sym (cond-made (p + bytes_for (s.width * length cs)) p ready)
+        ∙ ap (λ (m : ℕ). p + bytes_for (s.width * m)) (ap length cut ∙ counts-size)
+        ∙ ap (λ (q : ℕ). q + bytes_for (s.width * s.count)) ep
+        ∙ ap (λ (m : ℕ). at + 16 + 12 * m + bytes_for (s.width * m)) en
         ∙ omega arith,
-    then_over at o₀ ((h ++ i) ++ s) k three
-        (w4.1 ∙ sym (cond-made (over p (packed width (numbers cs)) o₃) o₃ ready) ∙ ap (λ (l : List ℤ). over p (packed width (numbers l)) o₃) cut)
-        (omega (arith, lh, li, ls, length-append (h ++ i) s, length-append h i)) (omega (arith, lk, slice-room))
+    then_over at o₀ ((head_of s ++ i) ++ h) k three
+        (w4.1 ∙ sym (cond-made (over p (packed s.width (numbers cs)) o₃) o₃ ready) ∙ ap (λ (l : List ℤ). over p (packed s.width (numbers l)) o₃) cut)
+        (omega (arith, head-length s, li, lh, ep, length-append (head_of s ++ i) h, length-append (head_of s) i)) (omega (arith, lk, slice-room, ep))
         ∙ ap (λ (q : List ℕ). over at q o₀)
-        (ap₂ (λ (m t : ℕ). ((head_of m t size offset salt width ++ i) ++ s) ++ k) et ek
-        ∙ slice-bytes size offset salt width n (part offset n c.idsums) (part offset n c.hashsums) (numbers (part offset n c.counts)) ids-size hashes-size numbers-size
-        ∙ ap (λ (m : ℕ). layout (slice size offset salt width (part offset m c.idsums) (part offset m c.hashsums) (numbers (part offset m c.counts)))) en),
+        (slice-bytes s.size s.offset s.salt s.width s.count (part s.offset s.count c.idsums) (part s.offset s.count c.hashsums) (numbers (part s.offset s.count c.counts)) slice-ids slice-hashes numbers-size
+        ∙ ap (λ (m : ℕ). layout (slice s.size s.offset s.salt s.width (part s.offset m c.idsums) (part s.offset m c.hashsums) (numbers (part s.offset m c.counts)))) en),
   )
     where
-      p : ℕ
-      p = at + 16 + 12 * n
-
-      ready : packs width cs p o₃ ≡ true
-      ready = ap (λ (l : List ℤ). packs width l p o₃) cut ∙ slice-packs o₃ same
-
-      h : List ℕ
-      h = head_of total kind size offset salt width
+      ready : packs s.width cs p o₃ ≡ true
+      ready = ap₂ (λ (l : List ℤ) (q : ℕ). packs s.width l q o₃) cut ep ∙ slice-packs o₃ same
 
       i : List ℕ
-      i = packed 64 (part offset n c.idsums)
+      i = packed 64 (part s.offset s.count c.idsums)
 
-      s : List ℕ
-      s = packed 32 (part offset n c.hashsums)
+      h : List ℕ
+      h = packed 32 (part s.offset s.count c.hashsums)
 
       k : List ℕ
-      k = packed width (numbers (part offset n c.counts))
+      k = packed s.width (numbers (part s.offset s.count c.counts))
 
-      lh : length h ≡ 16
-      lh = head-length total kind size offset salt width
+      li : length i ≡ 8 * s.count
+      li = whole_length 8 (part s.offset s.count c.idsums) ∙ ap (λ (m : ℕ). 8 * m) slice-ids
 
-      li : length i ≡ 8 * n
-      li = whole_length 8 (part offset n c.idsums) ∙ ap (λ (m : ℕ). 8 * m) ids-size
+      lh : length h ≡ 4 * s.count
+      lh = whole_length 4 (part s.offset s.count c.hashsums) ∙ ap (λ (m : ℕ). 4 * m) slice-hashes
 
-      ls : length s ≡ 4 * n
-      ls = whole_length 4 (part offset n c.hashsums) ∙ ap (λ (m : ℕ). 4 * m) hashes-size
+      lk : length k ≡ bytes_for (s.width * s.count)
+      lk = packed-length s.width (numbers (part s.offset s.count c.counts)) ∙ ap (λ (m : ℕ). bytes_for (s.width * m)) numbers-size
 
-      lk : length k ≡ bytes_for (width * n)
-      lk = packed-length width (numbers (part offset n c.counts)) ∙ ap (λ (m : ℕ). bytes_for (width * m)) numbers-size
+      two : o₂ ≡ over at (head_of s ++ i) o₀
+      two = then_over at o₀ (head_of s) i w1 w2 (omega (arith, head-length s)) (omega (arith, li, slice-room))
 
-      two : o₂ ≡ over at (h ++ i) o₀
-      two = then_over at o₀ h i w1 w2 (omega (arith, lh)) (omega (arith, li, slice-room))
-
-      three : o₃ ≡ over at ((h ++ i) ++ s) o₀
-      three = then_over at o₀ (h ++ i) s two w3 (omega (arith, lh, li, length-append h i)) (omega (arith, ls, slice-room))
+      three : o₃ ≡ over at ((head_of s ++ i) ++ h) o₀
+      three = then_over at o₀ (head_of s ++ i) h two w3 (omega (arith, head-length s, li, length-append (head_of s) i)) (omega (arith, lh, slice-room))
 
 -- the code's own form of a part
 pub part_between : {A : Type 0} (at k : ℕ) (l : List A) → take (at + k - at) (drop at l) ≡ part at k l

@@ -11,6 +11,7 @@ use lib.IntN.{ℤ, pos, negsuc}
 use lib.ListN.{length, take, get_or}
 use lib.Pow.{pow_pos}
 use lib.Seq.{take-suc}
+use Rattle.std.specs.List.{fold}
 use Rattle.bucket.specs.Counts.{width_of}
 use Rattle.bucket.specs.Digits.{Below}
 use Rattle.bucket.specs.Packing.{number, numbers, fits_in}
@@ -22,20 +23,14 @@ use Rattle.message.specs.Writing.{largest, width_for}
 
 -- ---- the largest of a list
 
-pub largest-none : largest [] ≡ 0
+-- as it is found: the larger of the largest so far and of each count, from the first on
+pub largest-folded : (cs : List ℤ) → fold (λ m c. max m (number c)) 0 cs ≡ largest (numbers cs)
 unfolding largest
-largest-none = refl
-
-largest_snoc : (xs : List ℕ) (x : ℕ) → largest (xs ++ x ∷ []) ≡ max (largest xs) x
-unfolding largest
-largest_snoc [] x = omega arith
-largest_snoc (y ∷ xs) x = let e = largest_snoc xs x in omega arith
-
-pub largest-next : (cs : List ℤ) (i : ℕ) → i < length cs → largest (numbers (take (i + 1) cs)) ≡ max (largest (numbers (take i cs))) (number (get_or cs i (pos 0)))
-largest-next cs i h =
-    ap (λ (l : List ℤ). largest (numbers l)) (ap (λ (n : ℕ). take n cs) (add-one i) ∙ take-suc cs i (pos 0) h)
-    ∙ ap largest (map-append number (take i cs) (get_or cs i (pos 0) ∷ []))
-    ∙ largest_snoc (numbers (take i cs)) (number (get_or cs i (pos 0)))
+largest-folded cs = go 0 cs ∙ omega arith
+  where
+    go : (m : ℕ) (cs : List ℤ) → fold (λ m c. max m (number c)) m cs ≡ max m (largest (numbers cs))
+    go m [] = omega arith
+    go m (c ∷ cs) = let e = go (max m (number c)) cs in omega arith
 
 -- ---- what it takes to hold it
 
@@ -69,20 +64,18 @@ pub record Smallest (cs : List ℤ) (w : ℕ) : Type 0 where
   pub holds : fits_in w cs ≡ true
   pub smallest : (v : ℕ) → 1 ≤ v → fits_in v cs ≡ true → w ≤ v
 
-module _ (n : ℕ) (cs : List ℤ) (h : are_counts n cs ≡ true) where
-  whole : fits_in 32 (take n cs) ≡ true
-  whole = sym (counts_bits (take n cs)) ∙ h
+pub largest-small : (cs : List ℤ) → all_counts cs ≡ true → largest (numbers cs) < 2 ^ 32
+largest-small cs h = fits-largest 32 cs (sym (counts_bits cs) ∙ h)
 
-  pub largest-small : largest (numbers (take n cs)) < 2 ^ 32
-  largest-small = fits-largest 32 (take n cs) whole
-
-  pub width-smallest : Smallest (take n cs) (width_for n cs)
-  unfolding width_for
-  width-smallest =
-      let k = width-least (largest (numbers (take n cs))) largest-small in
-      record {
-        some = k.some;
-        most = k.least 32 (omega arith) largest-small;
-        holds = below-fits 32 (width_of (largest (numbers (take n cs)))) (take n cs) whole k.holds;
-        smallest = λ v some fits. k.least v some (fits-largest v (take n cs) fits);
-      }
+pub width-smallest : (n : ℕ) (cs : List ℤ) → are_counts n cs ≡ true → Smallest (take n cs) (width_for n cs)
+unfolding width_for
+width-smallest n cs h =
+    let whole = sym (counts_bits (take n cs)) ∙ h in
+    let small = largest-small (take n cs) h in
+    let k = width-least (largest (numbers (take n cs))) small in
+    record {
+      some = k.some;
+      most = k.least 32 (omega arith) small;
+      holds = below-fits 32 (width_of (largest (numbers (take n cs)))) (take n cs) whole k.holds;
+      smallest = λ v some fits. k.least v some (fits-largest v (take n cs) fits);
+    }

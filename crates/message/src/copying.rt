@@ -1,43 +1,74 @@
-// Numbers and bytes put into a lent buffer, where there is room for them.
-ghost use Rattle.std.specs.Prelude.{◌≡◌, [], ◌∷◌, ◌+◌, ◌*◌, ◌≤◌, length};
+// Numbers put into a lent buffer, where there is room for them.
+ghost use Rattle.std.specs.Prelude.{◌≡◌, [], ◌∷◌, map, ℕ, ◌+◌, ◌*◌, ◌^◌, ◌≤◌, ◌<◌, length};
+ghost use Rattle.std.proofs.Common.{rules};
 ghost use Rattle.bucket.specs.Digits.{packed};
-ghost use Rattle.bucket.specs.Lists.{over, part};
+ghost use Rattle.bucket.specs.Lists.{over};
 
-// k bytes copied from one place to another.
-pub(crate) fn copy(s: &[u8], from: usize, k: usize, out: &mut [u8], at: usize)
-    requires { (from + k ≤ length s.now) × (at + k ≤ length out.old) }
-    ensures { out.new ≡ over at (part from k s.now) out.old }
-{
-    let mut j: usize = 0;
-    while j < k {
-        out[at + j] = s[from + j];
-        j += 1;
+// What stands in a column, and how many bytes it takes in a message: an ID eight, a hash four.
+pub(crate) trait Number: Copy {
+    ghost BYTES: { ℕ };
+
+    ghost value: { Self → ℕ };
+
+    const BYTES: usize;
+
+    fn number(self) -> u64
+        ensures { result ≡ value self };
+
+    // The one with a number that the bytes can hold.
+    fn of(x: u64) -> Self
+        requires { x < 2 ^ (8 * BYTES) }
+        ensures { value result ≡ x };
+
+    ghost few: { BYTES ≤ 8 };
+}
+
+impl Number for u64 {
+    ghost BYTES = { 8 };
+
+    ghost value = { λ x. x };
+
+    ghost few = { Prim.search rules };
+
+    const BYTES: usize = 8;
+
+    fn number(self) -> u64 {
+        self
+    }
+
+    fn of(x: u64) -> u64 {
+        x
     }
 }
 
-// n numbers of eight bytes.
-pub(crate) fn put_ids(ids: &[u64], from: usize, n: usize, out: &mut [u8], at: usize)
-    requires { (from + n ≤ length ids.now) × (at + 8 * n ≤ length out.old) }
-    ensures { out.new ≡ over at (packed 64 (part from n ids.now)) out.old }
-{
-    let mut j: usize = 0;
-    while j < n {
-        bucket::bytes::put_number(out, at + 8 * j, 8, ids[from + j]);
-        j += 1;
+impl Number for u32 {
+    ghost BYTES = { 4 };
+
+    ghost value = { λ x. x };
+
+    ghost few = { Prim.search rules };
+
+    const BYTES: usize = 4;
+
+    fn number(self) -> u64 {
+        u64::from(self)
+    }
+
+    fn of(x: u64) -> u32 {
+        x as u32
     }
 }
 
-// n numbers of four bytes.
-pub(crate) fn put_hashes(hashes: &[u32], from: usize, n: usize, out: &mut [u8], at: usize)
-    requires { (from + n ≤ length hashes.now) × (at + 4 * n ≤ length out.old) }
-    ensures { out.new ≡ over at (packed 32 (part from n hashes.now)) out.old }
+// Numbers one behind the other; answers the position behind them.
+pub(crate) fn put_numbers<T: Number>(xs: &[T], out: &mut [u8], at: usize) -> usize
+    requires { at + T.BYTES * length xs.now ≤ length out.old }
+    ensures next { result ≡ at + T.BYTES * length xs.now }
+    ensures put { out.new ≡ over at (packed (8 * T.BYTES) (map T.value xs.now)) out.old }
 {
-    let mut j: usize = 0;
-    while j < n {
-        let x = hashes[from + j] as u64;
-        bucket::bytes::put_number(out, at + 4 * j, 4, x);
-        j += 1;
+    for (j, x) in xs.iter().enumerate() {
+        bucket::bytes::put_number(out, at + T::BYTES * j, T::BYTES, x.number());
     }
+    at + T::BYTES * xs.len()
 }
 
 // Two numbers of k bytes.

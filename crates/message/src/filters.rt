@@ -1,13 +1,15 @@
 // A whole filter written as one slice or two.
-ghost use Rattle.std.specs.Prelude.{◌≡◌, true, ◌≤◌, max, length, take};
+ghost use Rattle.std.specs.Prelude.{◌≡◌, true, ◌≤◌};
 ghost use Rattle.bucket.specs.Columns.{columns};
+ghost use Rattle.bucket.specs.Counts.{width_of};
 ghost use Rattle.bucket.specs.Packing.{numbers};
-ghost use Rattle.filter.specs.Calls.{are_counts};
-ghost use Rattle.message.specs.Writing.{write, filter_call, largest, width_for};
+ghost use Rattle.filter.specs.Calls.{all_counts};
+ghost use Rattle.message.specs.Writing.{write, filter_call, largest};
 ghost use Rattle.message.specs.Putting.{filter_bytes};
 
 use crate::kinds::Wrote;
-use crate::slices::SECOND;
+use crate::slices::{SECOND, in_slice, slice_bytes};
+use bucket::packing::number_of;
 use filter::answers::Refusal;
 
 // The filter in the first size places of three columns, from a position of a lent buffer, at the smallest width for all of it; answers the next
@@ -35,7 +37,7 @@ pub fn filter(
     if !filter::forms::has_room(ids, hashes, counts, size) {
         return Wrote::Refused { why: Refusal::Room };
     }
-    let width = width_for(counts, size as usize);
+    let width = width_for(&counts[..size as usize]);
     if !crate::writing::has_room(at, filter_bytes(width, size), out.len()) {
         return Wrote::Refused { why: Refusal::Room };
     }
@@ -43,32 +45,19 @@ pub fn filter(
     Wrote::To { next }
 }
 
-// The smallest width that holds the first n counts, at least 1.
-fn width_for(counts: &[i64], n: usize) -> u32
-    requires { (n ≤ length counts.now) × (are_counts n counts.now ≡ true) }
-    ensures { result ≡ width_for n counts.now }
+// The smallest width that holds the counts, at least 1.
+fn width_for(counts: &[i64]) -> u32
+    requires { all_counts counts.now ≡ true }
+    ensures { result ≡ width_of (largest (numbers counts.now)) }
 {
-    bucket::counts::width(largest(counts, n) as u32)
+    bucket::counts::width(largest(counts) as u32)
 }
 
-// The largest of the first n counts.
-fn largest(counts: &[i64], n: usize) -> u64
-    requires { n ≤ length counts.now }
-    ensures { result ≡ largest (numbers (take n counts.now)) }
+// The largest of the counts, or 0.
+fn largest(counts: &[i64]) -> u64
+    ensures { result ≡ largest (numbers counts.now) }
 {
-    let mut most: u64 = 0;
-    let mut i: usize = 0;
-    while i < n {
-        most = greatest(most, bucket::packing::number_of(counts[i]));
-        i += 1;
-    }
-    most
-}
-
-fn greatest(x: u64, y: u64) -> u64
-    ensures { result ≡ max x y }
-{
-    if x < y { y } else { x }
+    counts.iter().fold(0, |most, c| most.max(number_of(*c)))
 }
 
 // The bytes of a whole filter.
@@ -76,9 +65,10 @@ fn filter_bytes(width: u32, size: u32) -> usize
     requires { size ≤ 4096 }
     ensures { result ≡ filter_bytes width size }
 {
-    let first = crate::slices::slice_bytes(width, crate::slices::in_slice(size, 0));
-    if SECOND < size {
-        return first + crate::slices::slice_bytes(width, crate::slices::in_slice(size, SECOND));
-    }
-    first
+    let second = if SECOND < size {
+        slice_bytes(width, in_slice(size, SECOND))
+    } else {
+        0
+    };
+    slice_bytes(width, in_slice(size, 0)) + second
 }

@@ -21,6 +21,16 @@ pub const IBF_LAST: u32 = 567;
 
 pub const DONE: u32 = 568;
 
+// The numbers of a slice: those of its filter, its offset in it, the width of its counters, and how many buckets it has.
+#[derive(Clone, Copy, PartialEq, Eq)]
+pub struct Slice {
+    pub size: u32,
+    pub offset: u32,
+    pub salt: u32,
+    pub width: u32,
+    pub count: usize,
+}
+
 // The kind and numbers of a message. Its items stay in the bytes and are read by number (items).
 #[derive(Clone, Copy)]
 pub enum Message {

@@ -17,12 +17,8 @@ pub(crate) fn put_inquiries(ids: &[u64], salt: u32, out: &mut [u8], at: usize)
     ensures { out.new ≡ over at (end_to_end (λ l. layout (inquiry salt l)) (pieces 8190 ids.now)) out.old }
 {
     let mut p = at;
-    let mut i: usize = 0;
-    while i < ids.len() {
-        let n = bucket::least(MOST_IDS, ids.len() - i);
-        crate::frames::put_inquiry(ids, i, n, salt, out, p);
-        p += 8 + 8 * n;
-        i += n;
+    for piece in ids.chunks(MOST_IDS) {
+        p = crate::frames::put_inquiry(piece, salt, out, p);
     }
 }
 
@@ -32,11 +28,7 @@ pub(crate) fn put_offers(bytes: &[u8], kind: u32, out: &mut [u8], at: usize)
     ensures { out.new ≡ over at (end_to_end (framed_hashes kind) (pieces 1023 (hashes_of bytes.now))) out.old }
 {
     let mut p = at;
-    let mut i: usize = 0;
-    while i < bytes.len() {
-        let k = bucket::least(MOST_BYTES, bytes.len() - i);
-        crate::frames::put_framed(kind, bytes, i, k, out, p);
-        p += 4 + k;
-        i += k;
+    for piece in bytes.chunks(MOST_BYTES) {
+        p = crate::frames::put_framed(kind, piece, out, p);
     }
 }

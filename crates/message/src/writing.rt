@@ -61,7 +61,7 @@ pub fn element(content: &[u8], out: &mut [u8], at: usize) -> Wrote
             why: Refusal::Malformed,
         };
     }
-    crate::frames::put_framed(ELEMENT, content, 0, n, out, at);
+    crate::frames::put_framed(ELEMENT, content, out, at);
     Wrote::To { next: at + 4 + n }
 }
 
@@ -75,7 +75,7 @@ pub fn done(check: &[u8], out: &mut [u8], at: usize) -> Wrote
     if !has_room(at, 68, out.len()) {
         return Wrote::Refused { why: Refusal::Room };
     }
-    crate::frames::put_framed(DONE, check, 0, 64, out, at);
+    crate::frames::put_framed(DONE, &check[..64], out, at);
     Wrote::To { next: at + 68 }
 }
 

@@ -7,8 +7,10 @@ use Rattle.bucket.proofs.TestLaws.{test_refused, test_granted}
 use Rattle.filter.specs.Calls.{in_range, are_counts, has_room}
 use Rattle.filter.proofs.FilledLaws.{wide_of}
 use Rattle.filter.proofs.PartLaws.{range-sound}
+use Rattle.message.specs.Writing.{width_for}
 use Rattle.message.proofs.FilterLaws.{filter_not_counts, filter_out_of_range, filter_short_columns, filter_short_buffer, filter_put, filter_written}
-use Rattle.std.proofs.Common.{ap}
+use Rattle.std.proofs.Common.{ap, sym}
+use Rattle.std.proofs.Math.Seq.{length-take-le}
 use mathlib.Core.Bool.{not}
 use Rattle.message.proofs.filters.filter.Goals as goal
 use Rattle.message.proofs.filters.filter.Goals.{Else-not-are_counts, Else-not-has_room, Else-not-in_range}
@@ -38,25 +40,32 @@ returns-then-not-has_room c = let a = c.args in
     let cols = columns a.ids.now a.hashes.now a.counts.now in
     filter_short_columns a.size a.salt cols a.at a.out.now (counted (goal.at.returns-then-not-has_room c).Else-not-are_counts) (ranged (goal.at.returns-then-not-has_room c).Else-not-in_range) (test_refused c.has_room.ensures (ap not c.if-not-has_room.true))
 
+pub slice_bounds-width_for-end : goal.slice_bounds-width_for-end
+slice_bounds-width_for-end c = let wide = wide_of _ _ (roomy (goal.at.slice_bounds-width_for-end c).Else-not-has_room) in
+    sym (length-take-le c.args.size c.args.counts.now wide.counts)
+
 pub width_for-width-requires : goal.width_for-width-requires
-width_for-width-requires c = ((wide_of _ _ (roomy c)).counts, counted (goal.at.width_for-width-requires c).Else-not-are_counts)
+width_for-width-requires c = counted (goal.at.width_for-width-requires c).Else-not-are_counts
 
 pub filter_bytes-requires : goal.filter_bytes-requires
 filter_bytes-requires c = (range-sound _ _ (ranged (goal.at.filter_bytes-requires c).Else-not-in_range)).most
 
 pub returns-then-not-has_room-2 : goal.returns-then-not-has_room-2
+unfolding width_for
 returns-then-not-has_room-2 c = let a = c.args in
     let cols = columns a.ids.now a.hashes.now a.counts.now in
     filter_short_buffer a.size a.salt cols a.at a.out.now (counted (goal.at.returns-then-not-has_room-2 c).Else-not-are_counts) (ranged (goal.at.returns-then-not-has_room-2 c).Else-not-in_range) (roomy (goal.at.returns-then-not-has_room-2 c).Else-not-has_room)
     c.width_for-width.ensures c.filter_bytes.ensures (test_refused c.has_room-2.ensures (ap not c.if-not-has_room-2.true))
 
 pub put_filter-next-requires : goal.put_filter-next-requires
+unfolding width_for
 put_filter-next-requires c = let a = c.args in
     let cols = columns a.ids.now a.hashes.now a.counts.now in
     filter_put a.size a.salt cols a.at a.out.now (counted (goal.at.put_filter-next-requires c).Else-not-are_counts) (ranged (goal.at.put_filter-next-requires c).Else-not-in_range) (roomy (goal.at.put_filter-next-requires c).Else-not-has_room)
     c.width_for-width.ensures c.filter_bytes.ensures (test_granted c.has_room-2.ensures (ap not c.if-not-has_room-2.false))
 
 pub returns : goal.returns
+unfolding width_for
 returns c = let a = c.args in
     let cols = columns a.ids.now a.hashes.now a.counts.now in
     let put = c.put_filter-next in

@@ -1,20 +1,19 @@
 -- `frames::put_framed` meets its contract: the bytes are copied behind the frame. Assumes nothing.
-use mathlib.Core.Path.{ap, ◌∙◌}
-use mathlib.Core.List.{List, [], ◌∷◌}
-use Prim.Native.Nat.{ℕ, ◌+◌}
-use native.Mathlib.Omega.{arith}
+use Rattle.std.proofs.Common.{List, [], ◌∷◌, ℕ, ◌+◌, length, ap, refl, ◌∙◌, add_assoc, arith}
 use Rattle.bucket.specs.Digits.{packed}
-use Rattle.bucket.specs.Lists.{over, part}
-use Rattle.bucket.proofs.OverLaws.{then_over, part_length}
+use Rattle.bucket.specs.Lists.{over}
+use Rattle.bucket.proofs.OverLaws.{then_over, over-part}
 use Rattle.message.proofs.WholeLaws.{whole_length}
 use Rattle.message.proofs.WriteLaws.{frame_put}
 use Rattle.message.proofs.frames.put_framed.Goals as goal
 
-pub returns : goal.returns
-returns c = let a = c.args in
-    let frame = packed 16 ((4 + a.k) ∷ a.kind ∷ []) in
-    let body = part a.from a.k a.bytes.now in
-    let len = whole_length 2 ((4 + a.k) ∷ a.kind ∷ []) in
-    let more = part_length a.from a.bytes.now a.k (omega arith) in
-    then_over a.at a.out.now frame body c.put_pair.ensures c.copy.ensures (omega arith) (omega arith)
-    ∙ ap (λ (q : List ℕ). over a.at q a.out.now) (frame_put a.kind a.k body more)
+pub returns-clause-put : goal.returns-clause-put
+returns-clause-put c = let a = c.args in
+    let body = a.bytes.now in
+    let frame = packed 16 ((4 + length body) ∷ a.kind ∷ []) in
+    let len = whole_length 2 ((4 + length body) ∷ a.kind ∷ []) in
+    let first = rw c.from.ensures at c.put_pair.ensures in
+    then_over a.at a.out.now frame body {p = a.at + 4} first
+    (rw c.copy_from_slice.ensures.after (over-part (a.at + 4) (a.at + (4 + length body)) body _ (add_assoc a.at 4 (length body))))
+    (omega arith) (omega arith)
+    ∙ ap (λ (q : List ℕ). over a.at q a.out.now) (frame_put a.kind (length body) body refl)

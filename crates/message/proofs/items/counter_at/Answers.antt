@@ -3,10 +3,10 @@ use borrow.Author.Tests.{le-leb, lt-leb}
 use Rattle.message.specs.Items.{counter_of}
 use Rattle.message.proofs.items.counter_at.Goals as goal
 
-pub returns-then-n-gt-MOST_BUCKETS : goal.returns-then-n-gt-MOST_BUCKETS
+pub returns-then-n : goal.returns-then-n
 unfolding counter_of
-returns-then-n-gt-MOST_BUCKETS c = rw (lt-leb _ 2520 c.if-n-gt-MOST_BUCKETS.true)
+returns-then-n c = rw (le-leb _ 2520 c.if-n.true) c.counter_at.ensures
 
-pub returns : goal.returns
+pub returns-else-n : goal.returns-else-n
 unfolding counter_of
-returns c = rw (le-leb _ 2520 c.if-n-gt-MOST_BUCKETS.false) c.counter_at.ensures
+returns-else-n c = rw (lt-leb _ 2520 c.if-n.false)

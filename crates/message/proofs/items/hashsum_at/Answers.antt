@@ -1,20 +1,21 @@
--- `items::hashsum_at` meets its contract: the HASHSUMs are numbers of 4 bytes behind the IDSUMs, so each fits in 32 bits. Assumes nothing.
+-- `items::hashsum_at` meets its contract: the HASHSUMs are numbers of 4 bytes behind the IDSUMs. Assumes nothing.
+use Rattle.std.proofs.Common.{◌+◌, ◌*◌, ◌∙◌}
 use borrow.Author.Tests.{le-leb, lt-leb, le-ltb, lt-ltb}
+use Rattle.bucket.proofs.TestLaws.{and_fails}
 use Rattle.message.specs.Items.{hashsum_at}
-use Rattle.message.proofs.ReachLaws.{number-below}
+use Rattle.message.proofs.ReachLaws.{item-number}
 use Rattle.message.proofs.items.hashsum_at.Goals as goal
+use Rattle.message.proofs.items.hashsum_at.Goals.{else-n-via-then-n+else-i-n, else-n-via-else-n}
 
-pub returns-then-n-gt-MOST_BUCKETS : goal.returns-then-n-gt-MOST_BUCKETS
+pub returns-then-i-n : goal.returns-then-i-n
 unfolding hashsum_at
-returns-then-n-gt-MOST_BUCKETS c = rw (lt-leb _ 2520 c.if-n-gt-MOST_BUCKETS.true)
+returns-then-i-n c = let a = c.args in
+    rw (le-leb _ 2520 c.if-n.true, lt-ltb _ _ c.if-i-n.true) (rw c.item.ensures at c.word_at.ensures ∙ item-number 4 (16 + 8 * a.n) a.s.now a.i)
 
-pub returns-then-n-i : goal.returns-then-n-i
+pub returns-else-n : goal.returns-else-n
 unfolding hashsum_at
-returns-then-n-i c = rw (le-leb _ 2520 c.if-n-gt-MOST_BUCKETS.false, le-ltb _ _ c.if-n-i.true)
-
-pub overflow_cast-result : goal.overflow_cast-result
-overflow_cast-result c = record { fits = rw c.item_at.ensures (number-below 4 _ _ _) }
-
-pub returns : goal.returns
-unfolding hashsum_at
-returns c = rw (le-leb _ 2520 c.if-n-gt-MOST_BUCKETS.false, lt-ltb _ _ c.if-n-i.false) c.item_at.ensures
+returns-else-n c =
+    elim c.else-n.branch [
+      | else-n-via-then-n+else-i-n w ↦ rw (le-leb _ 2520 w.if-n.true, le-ltb _ _ w.if-i-n.false)
+      | else-n-via-else-n w ↦ rw (lt-leb _ 2520 w.if-n.false)
+    ]

@@ -1,72 +1,70 @@
-use mathlib.Core.Path.{◌≡◌, ap, subst, ◌∙◌}
-use mathlib.Core.List.{List}
-use Prim.Native.Nat.{ℕ, ◌+◌, ◌-◌, ◌*◌, ◌/◌, ◌%◌, ◌<◌, min}
-use native.Mathlib.Omega.{arith}
-use lib.ListN.{length}
+use Rattle.std.proofs.Common.{◌≡◌, ◌<◌, ◌≤◌, ◌+◌, ◌/◌, ◌%◌, min, ℕ, List, ◌++◌, length, length-append, take, drop, ap, sym, subst, ◌∙◌, arith}
+use Rattle.std.proofs.Math.Seq.{take-append_seam, drop-append_seam}
+use Rattle.std.specs.Slice.Iter.{chunks_rest}
 use Rattle.bucket.specs.Digits.{Below}
-use Rattle.bucket.specs.Lists.{over, part}
+use Rattle.bucket.specs.Lists.{over}
 use Rattle.filter.specs.Table.{hashes_of}
 use Rattle.filter.proofs.TableLaws.{hashes-length}
 use Rattle.message.specs.Layout.{framed}
 use Rattle.message.specs.Putting.{framed_hashes}
-use Rattle.message.proofs.CutLaws.{Cutting, cutting_start, cutting_next, cutting_end}
-use Rattle.message.proofs.HashLaws.{framed-part, framed-hashes-length}
+use Rattle.message.proofs.CutLaws.{Cutting, cutting_room, cutting_next, cutting_end}
+use Rattle.message.proofs.HashLaws.{hashes-append, framed-whole, framed-hashes-length}
+use Rattle.message.proofs.WholeLaws.{take_below, drop-below}
 use Rattle.message.proofs.lists.put_offers.Goals as goal
-use Rattle.message.proofs.lists.put_offers.Invariants.{Offering}
 
--- one message more, by its bytes
-offering_next : (kind at : ℕ) (t out₀ : List ℕ) {out out' : List ℕ} {p i : ℕ} → Offering kind at t out₀ out p i → Below 8 t → length t % 64 ≡ 0 → (k : ℕ) → i < length t
-    → k ≡ min 65472 (length t - i) → length out' ≡ length out → out' ≡ over p (framed kind (part i k t)) out → Offering kind at t out₀ out' (p + (4 + k)) (i + k)
-offering_next kind at t out₀ {out} {out'} {p} {i} (torn, inside, state) below whole k h e len o = (
-  omega arith,
-  omega arith,
-  subst (λ (j : ℕ). Cutting 1023 4 64 (framed_hashes kind) at (hashes_of t) out₀ out' (p + (4 + k)) j) places
-      (subst (λ (b : ℕ). Cutting 1023 4 64 (framed_hashes kind) at (hashes_of t) out₀ out' (p + (4 + b)) (i / 64 + k / 64)) bytes
-      (cutting_next state (omega arith) (framed-hashes-length kind) (k / 64) (omega (arith, many)) (omega (arith, many)) len (o ∙ ap (λ (l : List ℕ). over p l out) made))),
-)
-  where
-    many : length (hashes_of t) ≡ length t / 64
-    many = hashes-length t
+-- a piece of what is left in bytes is one in hashes
+module _ (rest a behind : List ℕ) (whole : length rest % 64 ≡ 0) (cut : rest ≡ a ++ behind) (size : length a ≡ min 65472 (length rest)) (some : 0 < length rest) where
+  piece_whole : length a % 64 ≡ 0
+  piece_whole = omega arith
 
-    bytes : 64 * (k / 64) ≡ k
-    bytes = omega arith
+  behind_whole : length behind % 64 ≡ 0
+  behind_whole = omega (arith, piece_whole, ap length cut ∙ length-append a behind)
 
-    start : 64 * (i / 64) ≡ i
-    start = omega arith
+  in_hashes : hashes_of rest ≡ hashes_of a ++ hashes_of behind
+  in_hashes = ap hashes_of cut ∙ hashes-append a behind piece_whole
 
-    places : i / 64 + k / 64 ≡ (i + k) / 64
-    places = omega arith
+  size_in_hashes : length (hashes_of a) ≡ min 1023 (length (hashes_of rest))
+  size_in_hashes = omega (arith, hashes-length a, hashes-length rest)
 
-    made : framed kind (part i k t) ≡ framed_hashes kind (part (i / 64) (k / 64) (hashes_of t))
-    made = rw (start, bytes) at (framed-part t below whole kind (i / 64) (k / 64) (omega arith))
+  some_hash : 0 < length (hashes_of rest)
+  some_hash = omega (arith, hashes-length rest)
 
-pub loop-i-init : goal.loop-i-init
-loop-i-init c = let a = c.args in
-    (omega arith, omega arith, cutting_start 1023 4 64 (framed_hashes a.kind) a.at (hashes_of a.bytes.now) a.out.now c.requires.1)
+  below : Below 8 rest → Below 8 a × Below 8 behind
+  below h = (
+    subst (Below 8) (ap (take (length a)) cut ∙ take-append_seam a behind) (take_below 8 (length a) rest h),
+    subst (Below 8) (ap (drop (length a)) cut ∙ drop-append_seam a behind) (drop-below 8 (length a) rest h),
+  )
 
-pub put_framed-requires : goal.put_framed-requires
-put_framed-requires c = let k = c.loop-i.invariant.2 in
-    let many = hashes-length c.args.bytes.now in
-    (omega arith, omega (arith, k.room))
+  module _ (kind : ℕ) {at p : ℕ} {t out₀ out : List ℕ} (cutting : Cutting 1023 4 64 (framed_hashes kind) at t out₀ out p (hashes_of rest)) where
+    piece_room : p + (4 + length a) ≤ length out
+    piece_room =
+        omega (arith, hashes-length a, piece_whole, cutting_room (omega arith) cutting (hashes_of a) (hashes_of behind) in_hashes size_in_hashes some_hash)
 
-pub overflow_add-p-in-loop-i : goal.overflow_add-p-in-loop-i
-overflow_add-p-in-loop-i c = let k = c.loop-i.invariant.2 in
-    let many = hashes-length c.args.bytes.now in
-    omega (arith, k.room)
+    piece_next : Below 8 a → {out' : List ℕ} {p' : ℕ} → p' ≡ p + (4 + length a) → out' ≡ over p (framed kind a) out
+        → Cutting 1023 4 64 (framed_hashes kind) at t out₀ out' p' (hashes_of behind)
+    piece_next h ep o =
+        cutting_next (omega arith) cutting (hashes_of a) (hashes_of behind) in_hashes size_in_hashes some_hash (framed-hashes-length kind)
+        (omega (arith, ep, hashes-length a, piece_whole)) (o ∙ ap (λ (l : List ℕ). over p l out) (framed-whole a h piece_whole kind))
 
-pub loop-i-smaller : goal.loop-i-smaller
-loop-i-smaller c = omega arith
+pub put_framed-p-requires : goal.put_framed-p-requires
+put_framed-p-requires c = let k = c.loop-piece.invariant in
+    let cut = c.in-Some.ensures.steps.1 in
+    piece_room _ _ _ k.whole cut.0 (rw k.size at cut.1) cut.2 _ k.cutting
 
-pub loop-i-preserved : goal.loop-i-preserved
-loop-i-preserved c = let least = c.least-k in
-    let put = c.put_framed in
-    let a = c.args in
-    offering_next a.kind a.at a.bytes.now a.out.now c.loop-i.invariant (λ n. (c.shared_slice_known-1.given n).fits)
-    c.requires.0 least.result (omega arith) least.ensures put.auto.out put.ensures
-
-pub shape_of-out : goal.shape_of-out
-shape_of-out c = c.loop-i.invariant.2.same
+pub loop-piece-preserved : goal.loop-piece-preserved
+loop-piece-preserved c = let k = c.loop-piece.invariant in
+    let step = c.in-Some.ensures.steps in
+    let cut = step.1 in
+    let size = rw k.size at cut.1 in
+    let put = c.put_framed-p.ensures in
+    let bytes = below _ _ _ k.whole cut.0 size cut.2 k.bytes in
+    record {
+      size = step.0 ∙ k.size;
+      whole = behind_whole _ _ _ k.whole cut.0 size cut.2;
+      bytes = bytes.1;
+      cutting = piece_next _ _ _ k.whole cut.0 size cut.2 _ k.cutting bytes.0 put.next put.put;
+    }
 
 pub returns : goal.returns
-returns c = let many = hashes-length c.args.bytes.now in
-    cutting_end c.loop-i.invariant.2 (omega arith) (omega arith)
+returns c = let none = c.in-None.ensures.steps.1.0 in
+    cutting_end (omega arith) c.loop-piece.invariant.cutting (omega (arith, hashes-length (chunks_rest c.loop-piece.piece-iterator)))

@@ -1,20 +1,17 @@
--- `lists::put_offers` meets its contract. The loop's invariant: whole hashes are passed, and what is left of them, written from p on, gives the
--- whole. Assumes nothing.
-use mathlib.Core.Path.{◌≡◌}
-use mathlib.Core.List.{List}
-use Prim.Native.Nat.{ℕ, ◌-◌, ◌/◌, ◌%◌, ◌≤◌}
-use lib.ListN.{length}
+-- `lists::put_offers` meets its contract. The loop's invariant: whole hashes are left, and they, written from p on, give the whole. Assumes nothing.
+use Rattle.std.proofs.Common.{◌≡◌, ◌%◌, length}
+use Rattle.std.specs.Slice.Iter.{chunks_rest, chunks_size}
+use Rattle.bucket.specs.Digits.{Below}
 use Rattle.filter.specs.Table.{hashes_of}
 use Rattle.message.specs.Putting.{framed_hashes}
 use Rattle.message.proofs.CutLaws.{Cutting}
 use Rattle.message.proofs.lists.put_offers.Given as goal
 
-abbrev pub Offering : (kind at : ℕ) (t out₀ out : List ℕ) (p i : ℕ) → Type 0
-Offering kind at t out₀ out p i =
-    (i % 64 ≡ 0) × (i ≤ length t) × Cutting 1023 4 64 (framed_hashes kind) at (hashes_of t) out₀ out p (i / 64)
-
-abbrev pub invariant-loop-i : goal.invariant-loop-i
-invariant-loop-i l = Offering l.kind l.at l.bytes l.initial.out l.out l.p l.i
-
-abbrev pub decreases-loop-i : goal.decreases-loop-i
-decreases-loop-i l = length l.bytes - l.i
+abbrev pub invariant-loop-piece : goal.invariant-loop-piece
+invariant-loop-piece l = let rest = chunks_rest l.piece-iterator in
+    record {
+      size : chunks_size l.piece-iterator ≡ 65472;
+      whole : length rest % 64 ≡ 0;
+      bytes : Below 8 rest;
+      cutting : Cutting 1023 4 64 (framed_hashes l.kind) l.at (hashes_of l.bytes) l.initial.out l.out l.p (hashes_of rest);
+    }

@@ -5,5 +5,5 @@ use Rattle.message.proofs.slices.slice_type.Goals as goal
 pub returns-then-offset-in_slice : goal.returns-then-offset-in_slice
 returns-then-offset-in_slice c = reaches_end _ _ c.in_slice.ensures c.if-offset-in_slice.true
 
-pub returns : goal.returns
-returns c = stops-before _ _ c.in_slice.ensures c.if-offset-in_slice.false
+pub returns-else-offset-in_slice : goal.returns-else-offset-in_slice
+returns-else-offset-in_slice c = stops-before _ _ c.in_slice.ensures c.if-offset-in_slice.false

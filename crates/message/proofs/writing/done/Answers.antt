@@ -6,6 +6,7 @@ use Prim.Native.Nat.{ℕ, ◌+◌, ◌≤◌}
 use native.Mathlib.Omega.{arith}
 use borrow.Author.Tests.{le-leb, lt-leb}
 use lib.ListN.{length, take}
+use lib.Seq.{length-take-le}
 use Rattle.bucket.specs.Digits.{joined, packed, Below}
 use Rattle.bucket.proofs.TestLaws.{test_refused, test_granted}
 use Rattle.message.specs.Layout.{done, layout, framed}
@@ -42,7 +43,8 @@ returns-then-not-has_room c = let a = c.args in
     )
 
 pub put_framed-requires : goal.put_framed-requires
-put_framed-requires c = (omega arith, omega (arith, room (goal.at.put_framed-requires c).Else-not-has_room))
+put_framed-requires c = let size = length-take-le 64 c.args.check.now (omega arith) in
+    omega (arith, room (goal.at.put_framed-requires c).Else-not-has_room)
 
 pub overflow_add-result : goal.overflow_add-result
 overflow_add-result c = omega (arith, room (goal.at.overflow_add-result c).Else-not-has_room)
@@ -56,4 +58,4 @@ returns c = let a = c.args in
       le-leb 64 (length check) (omega arith),
       room_tested (done x ∷ []) a.at a.out.now 68 (size x) (test_granted c.has_room.ensures (ap not c.if-not-has_room.false)),
     )
-    (wrote-there (done x ∷ []) a.at a.out.now 68 (size x) (laid check (λ n. (c.shared_slice_known-1.given n).fits) (omega arith)) c.put_framed.ensures (omega arith))
+    (wrote-there (done x ∷ []) a.at a.out.now 68 (size x) (laid check (λ n. (c.shared_slice_known-1.given n).fits) (omega arith)) c.put_framed.ensures.put (omega arith))

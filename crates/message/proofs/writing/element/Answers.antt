@@ -52,7 +52,7 @@ returns-then-n-gt-MOST_CONTENT c = let a = c.args in
     )
 
 pub put_framed-requires : goal.put_framed-requires
-put_framed-requires c = (omega arith, omega (arith, room (goal.at.put_framed-requires c).Else-not-has_room))
+put_framed-requires c = omega (arith, room (goal.at.put_framed-requires c).Else-not-has_room)
 
 pub overflow_add-result : goal.overflow_add-result
 overflow_add-result c = omega (arith, room (goal.at.overflow_add-result c).Else-not-has_room)
@@ -64,11 +64,10 @@ pub returns : goal.returns
 unfolding element_call
 returns c = let a = c.args in
     let bytes = a.content.now in
-    let all = take_all (length bytes) bytes (omega arith) in
     rw (
       room_tested (element bytes ∷ []) a.at a.out.now (4 + length bytes) (size bytes) (test_granted c.has_room.ensures (ap not c.if-not-has_room.false)),
       le-leb 1 (length bytes) (omega arith),
       le-leb (length bytes) 65531 (omega arith),
     )
     (wrote-there (element bytes ∷ []) a.at a.out.now (4 + length bytes) (size bytes) (laid bytes)
-    (c.put_framed.ensures ∙ ap (λ (l : List ℕ). over a.at (framed 566 l) a.out.now) all) (omega arith))
+    c.put_framed.ensures.put (omega arith))
