@@ -182,6 +182,11 @@ module _ {l : List ℕ} {a lo hi : ℕ} (s : Halving l a lo hi) where
   pub halving_end : hi ≤ lo → lo ≡ position l a
   halving_end h = sym (bisect-done (λ i. ltb (get_or l i 0) a) (length l) lo hi h) ∙ s.rest
 
+-- a search that asks of the positions of a list, which are n, whether the number there is below a
+pub position_asked : (l : List ℕ) (a : ℕ) {n r : ℕ} → n ≡ length l → r ≡ bisect (λ i. ltb (get_or l i 0) a) n 0 n → r ≡ position l a
+unfolding position
+position_asked l a e q = q ∙ ap (λ (m : ℕ). bisect (λ i. ltb (get_or l i 0) a) m 0 m) e
+
 -- what stands where the search ends is not below a, whatever the list
 pub position-stops : (l : List ℕ) (a : ℕ) → position l a < length l → a ≤ get_or l (position l a) 0
 unfolding position

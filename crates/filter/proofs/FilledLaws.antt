@@ -1,16 +1,17 @@
 -- Laws of `filled`: which buckets are seen in columns whose first n buckets were replaced, that no column grows or shrinks, and that these two fix the columns. Assumes nothing.
 use mathlib.Core.Path.{◌≡◌, refl, sym, ap, ap₂, ◌∙◌}
 use mathlib.Core.Bool.{Bool, true, false, and-eq-true_iff}
-use mathlib.Core.List.{List}
+use mathlib.Core.List.{List, [], ◌∷◌, ◌++◌}
 use Prim.Native.Nat.{ℕ, zero, suc, ◌+◌, ◌≤◌, ◌<◌}
+use native.Mathlib.Nat.{le_of_suc-le-suc}
 use native.Mathlib.Numerals.{add-one}
 use native.Mathlib.Omega.{arith}
 use borrow.Author.Tests.{ltb-true, ltb-false, leb-true, eqb-true, eqb-false}
 use lib.Dec.{eqb, ltb, leb}
 use lib.IntN.{ℤ, pos}
-use lib.ListN.{length}
+use lib.ListN.{length, drop, set, replicate}
 use lib.Seq.{ext_get_or}
-use Rattle.bucket.specs.Bucket.{Bucket}
+use Rattle.bucket.specs.Bucket.{Bucket, 𝟎}
 use Rattle.bucket.specs.Columns.{Columns, columns, view, place}
 use Rattle.bucket.proofs.ColumnLaws.{SameLengths, place_same, place_other, place-lengths}
 use Rattle.filter.specs.Calls.{has_room, filled}
@@ -128,3 +129,19 @@ filled-filled n f g c w =
 
 pub filled-view : (n : ℕ) (c : Columns) → Wide n c → filled n (view c) c ≡ c
 filled-view n c w = sym (filled_of n (view c) c c w (lengths_refl c) (λ i h. refl) (λ i h. refl))
+
+-- ---- places filled with one value
+
+one_more : {A : Type 0} (a : A) (n : ℕ) (l : List A) → n < length l → replicate (suc n) a ++ drop (suc n) l ≡ set (replicate n a ++ drop n l) n a
+one_more a n [] h = absurd (omega arith)
+one_more a zero (x ∷ l) h = refl
+one_more a (suc n) (x ∷ l) h = ap (a ∷◌) (one_more a n l (le_of_suc-le-suc h))
+
+-- zeros in the first n places of each column are zero buckets
+pub filled_zeros : (n : ℕ) (c : Columns) → Wide n c
+    → columns (replicate n 0 ++ drop n c.idsums) (replicate n 0 ++ drop n c.hashsums) (replicate n (pos 0) ++ drop n c.counts) ≡ filled n (λ i. 𝟎) c
+unfolding filled place 𝟎
+filled_zeros zero c w = refl
+filled_zeros (suc n) c w =
+    columns-same (one_more 0 n c.idsums w.idsums) (one_more 0 n c.hashsums w.hashsums) (one_more (pos 0) n c.counts w.counts)
+    ∙ ap (λ (d : Columns). place d n 𝟎) (filled_zeros n c (wide-less n (suc n) c (omega arith) w))

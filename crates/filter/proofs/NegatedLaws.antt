@@ -1,15 +1,15 @@
 -- Laws of `negated`: counts with their signs turned one after another, what that makes of the columns, and that the turned counts are as small as before. Assumes nothing.
 use mathlib.Core.Path.{◌≡◌, refl, sym, ap, ap₂, ◌∙◌}
 use mathlib.Core.Bool.{Bool, true, false}
-use mathlib.Core.List.{List}
+use mathlib.Core.List.{List, ◌++◌}
 use Prim.Native.Nat.{ℕ, zero, suc, ◌+◌, ◌^◌, ◌≤◌, ◌<◌, zero-le}
 use native.Mathlib.Numerals.{add-one}
 use native.Mathlib.Omega.{arith}
 use borrow.Author.Tests.{eqb-true, eqb-false}
 use lib.Dec.{eqb}
 use lib.IntN.{ℤ, pos, negsuc, neg_ℤ, nat_abs, ◌-ℤ◌}
-use lib.ListN.{length, get_or, set, length-set}
-use lib.Seq.{set-get_or, get_or-set_same, get_or-set_other}
+use lib.ListN.{length, get_or, set, take, drop, length-set, length-take, take-append-drop}
+use lib.Seq.{set-get_or, get_or-set_same, get_or-set_other, get_or-take, set-append_left}
 use mir.Syntax.{w64}
 use mir.Val.{SFits, to_z, of_z}
 use Rattle.bucket.specs.Bucket.{neg}
@@ -53,6 +53,14 @@ negated_in (suc n) cs i w h = go (eqb i n) refl (negated_in n cs i (omega arith)
     go false e ih =
         let ne = eqb-false i n e in
         get_or-set_other (negated n cs) n i (neg_ℤ (get_or cs n (pos 0))) (pos 0) ne ∙ ih (omega (arith, h, ne))
+
+-- turned in the part that is lent alone
+pub negated-part : (m n : ℕ) (cs : List ℤ) → m ≤ n → n ≤ length cs → negated m (take n cs) ++ drop n cs ≡ negated m cs
+unfolding negated
+negated-part zero n cs h w = take-append-drop n cs
+negated-part (suc m) n cs h w =
+    sym (set-append_left (negated m (take n cs)) (drop n cs) m (neg_ℤ (get_or (take n cs) m (pos 0))) (omega (arith, negated-length m (take n cs), length-take n cs)))
+    ∙ ap₂ (λ (l : List ℤ) (z : ℤ). set l m (neg_ℤ z)) (negated-part m n cs (omega arith) w) (get_or-take n cs m (pos 0) h)
 
 -- a loop that turns one sign after another
 

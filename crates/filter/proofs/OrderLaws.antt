@@ -92,6 +92,11 @@ pub rising-end : (l : List ℕ) (last e : ℕ) → Rising l last e → length l 
 unfolding rising
 rising-end l last e r h = ap (rising last) (sym (drop_of_length-le l h)) ∙ r.rest
 
+-- whether or not there is a first number
+pub rising-all : (l : List ℕ) (last e : ℕ) → (0 < length l → Rising l last e) → length l ≤ e → true ≡ ascending l
+rising-all [] last e r h = refl
+rising-all (a ∷ l) last e r h = rising-end (a ∷ l) last e (r (omega arith)) h
+
 -- ---- repeats
 
 pub distinct_true : (l : List ℕ) → distinct l ≡ true → Distinct l

@@ -37,6 +37,9 @@ pub hash_at_lem : (t : List ℕ) (i : ℕ) → i < length t / 64 → get_or (has
 unfolding hashes_of hash_at
 hash_at_lem t i h = tabulated-at (hash_at t) 0 (length t / 64) i h ∙ ap (hash_at t) (zero-add i)
 
+pub hash-bytes : (t : List ℕ) (i : ℕ) → i < length t / 64 → get_or (hashes_of t) i 0 ≡ joined 8 (part (i * 64) 64 t)
+hash-bytes t i h = hash_at_lem t i h ∙ ap (λ (n : ℕ). joined 8 (part n 64 t)) (mul_comm 64 i)
+
 pub hash-past : (t : List ℕ) (i : ℕ) → length t / 64 ≤ i → get_or (hashes_of t) i 0 ≡ 0
 hash-past t i h = get_or-eq_default (hashes_of t) 0 (rw (hashes-length t) h)
 
@@ -122,12 +125,3 @@ module _ (t : List ℕ) where
   pub table_by_ids : length t % 64 ≡ 0 → length t / 64 ≤ 4096 → ascending (ids_of first_eight t) ≡ is_table first_eight t
   table_by_ids e h =
       sym (table-ids t ∙ ap₂ (λ (u v : Bool). u && (v && ascending (ids_of first_eight t))) (eq-eqb (length t % 64) 0 e) (le-leb (length t / 64) 4096 h))
-
--- ---- two hashes by their bytes
-
-pub hashes-compared : (t : List ℕ) (i : ℕ) (s : List ℕ) (j : ℕ) → i < length t / 64 → j < length s / 64
-    → ltb (get_or (hashes_of t) i 0) (get_or (hashes_of s) j 0) ≡ ltb (joined 8 (part (i * 64) 64 t)) (joined 8 (part (j * 64) 64 s))
-hashes-compared t i s j h g = ap₂ ltb (bytes t i h) (bytes s j g)
-  where
-    bytes : (t : List ℕ) (i : ℕ) → i < length t / 64 → get_or (hashes_of t) i 0 ≡ joined 8 (part (i * 64) 64 t)
-    bytes t i h = hash_at_lem t i h ∙ ap (λ (n : ℕ). joined 8 (part n 64 t)) (mul_comm 64 i)

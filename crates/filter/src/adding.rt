@@ -31,13 +31,10 @@ pub(crate) fn add_table(
         (λ i. view (columns ids.old hashes.old counts.old) i ⊕ filter_of (layered top k size salt) (ids_of first_eight table.now) i)
         (columns ids.old hashes.old counts.old) }
 {
-    let n = crate::table::count(table);
-    let mut e: usize = 0;
-    while e < n {
+    for e in 0..crate::table::count(table) {
         let id = crate::table::element_id(table, e);
         let x = bucket::salting::salt(id, salt);
         add_element(tab, ids, hashes, counts, x, size, k, top);
-        e += 1;
     }
 }
 
@@ -80,11 +77,8 @@ fn start(x: u64, size: u32, top: u32) -> usize
     requires { (size ≤ 4096) × (top ≤ 31) }
     ensures { result ≡ size * min top (stratum_of x) }
 {
-    let s = bucket::counts::stratum(x);
-    if s < top {
-        return (size as usize) * (s as usize);
-    }
-    (size as usize) * (top as usize)
+    let s = bucket::counts::stratum(x).min(top);
+    (size as usize) * (s as usize)
 }
 
 // Adds one element of ours to all its buckets.
@@ -105,15 +99,13 @@ fn add_to_places(
         (columns ids.old hashes.old counts.old) }
 {
     let p = bucket::places::places(tab, h, size, k);
-    let mut j: usize = 0;
-    while j < k {
-        let b = p[j] as usize;
-        put_at(ids, hashes, counts, b, x, h, 1);
-        j += 1;
+    for b in &p[..k] {
+        put_at(ids, hashes, counts, *b as usize, x, h, 1);
     }
 }
 
 // Adds a bucket to bucket i, which is open to it: what add_at of `bucket` does, without its tests.
+#[tactic(auto, using(bucket::proofs::ColumnLaws::is_open_inside))]
 pub(crate) fn put_at(
     ids: &mut [u64],
     hashes: &mut [u32],
@@ -128,8 +120,7 @@ pub(crate) fn put_at(
         ≡ place (columns ids.old hashes.old counts.old) i
         (view (columns ids.old hashes.old counts.old) i ⊕ bucket idsum hashsum count) }
 {
-    ids[i] = ids[i] ^ idsum;
-    hashes[i] = hashes[i] ^ hashsum;
-    let c = counts[i];
-    counts[i] = c + count;
+    ids[i] ^= idsum;
+    hashes[i] ^= hashsum;
+    counts[i] += count;
 }

@@ -10,24 +10,16 @@ pub(crate) fn clear_columns(ids: &mut [u64], hashes: &mut [u32], counts: &mut [i
     ensures { columns ids.new hashes.new counts.new
         ≡ filled n (λ i. 𝟎) (columns ids.old hashes.old counts.old) }
 {
-    let mut i: usize = 0;
-    while i < n {
-        ids[i] = 0;
-        hashes[i] = 0;
-        counts[i] = 0;
-        i += 1;
-    }
+    ids[..n].fill(0);
+    hashes[..n].fill(0);
+    counts[..n].fill(0);
 }
 
 pub(crate) fn clear_list(xs: &mut [u64], n: usize)
     requires { n ≤ length xs.old }
     ensures { xs.new ≡ listed_into n [] xs.old }
 {
-    let mut i: usize = 0;
-    while i < n {
-        xs[i] = 0;
-        i += 1;
-    }
+    xs[..n].fill(0);
 }
 
 // Turned signs make the received filter the one to be subtracted: the XOR sums are their own opposites.
@@ -35,10 +27,7 @@ pub(crate) fn negate(counts: &mut [i64], n: usize)
     requires { (n ≤ length counts.old) × ((i : ℕ) → i < n → nat_abs (get_or counts.old i (pos 0)) < 2 ^ 61) }
     ensures { counts.new ≡ negated n counts.old }
 {
-    let mut i: usize = 0;
-    while i < n {
-        let c = counts[i];
-        counts[i] = 0 - c;
-        i += 1;
+    for c in counts[..n].iter_mut() {
+        *c = -*c;
     }
 }

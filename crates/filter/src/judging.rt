@@ -1,13 +1,14 @@
 // How a peeling is called: complete, stuck or false.
-ghost use Rattle.std.specs.Prelude.{◌≡◌, true, false, ◌&&◌, ◌≤◌, length, take};
+ghost use Rattle.std.specs.Prelude.{◌≡◌, true, false, ◌&&◌};
 ghost use Rattle.bucket.specs.Columns.{columns, view};
 ghost use Rattle.filter.specs.Table.{first_eight, ids_of, is_table};
 ghost use Rattle.filter.specs.Peeling.{all_zero, verdict_by};
 ghost use Rattle.filter.specs.Steps.{Wide, every};
 
 use crate::answers::Verdict;
+use crate::finding::{Hints, is_held};
 
-// The verdict on a peeling that was in order or not, with a and b IDs listed. The table is asked only once the columns are zero.
+// The verdict on a peeling that was in order or not and listed these IDs. The table is asked only once the columns are zero.
 pub(crate) fn judge(
     table: &[u8],
     ids: &[u64],
@@ -16,14 +17,11 @@ pub(crate) fn judge(
     ours: &[u64],
     theirs: &[u64],
     fine: bool,
-    a: usize,
-    b: usize,
     size: u32,
 ) -> Verdict
-    requires { (is_table first_eight table.now ≡ true) × Wide size (columns ids.now hashes.now counts.now)
-        × (a ≤ length ours.now) × (b ≤ length theirs.now) }
+    requires { (is_table first_eight table.now ≡ true) × Wide size (columns ids.now hashes.now counts.now) }
     ensures { result ≡ verdict_by fine (all_zero (view (columns ids.now hashes.now counts.now)) size)
-        (every true (ids_of first_eight table.now) (take a ours.now) && every false (ids_of first_eight table.now) (take b theirs.now)) }
+        (every true (ids_of first_eight table.now) ours.now && every false (ids_of first_eight table.now) theirs.now) }
 {
     if !fine {
         return Verdict::False;
@@ -31,70 +29,40 @@ pub(crate) fn judge(
     if !all_zero(ids, hashes, counts, size as usize) {
         return Verdict::Stuck;
     }
-    if !lists_agree(table, ours, a, theirs, b) {
+    if !lists_agree(table, ours, theirs) {
         return Verdict::False;
     }
     Verdict::Complete
 }
 
+// Whether the first n buckets are zero.
 pub(crate) fn all_zero(ids: &[u64], hashes: &[u32], counts: &[i64], n: usize) -> bool
     requires { Wide n (columns ids.now hashes.now counts.now) }
     ensures { result ≡ all_zero (view (columns ids.now hashes.now counts.now)) n }
 {
-    let mut i = n;
-    while 0 < i {
-        i -= 1;
-        if !bucket::columns::is_zero(ids[i], hashes[i], counts[i]) {
-            return false;
-        }
-    }
-    true
+    ids[..n].iter().all(|id| *id == 0)
+        && hashes[..n].iter().all(|hash| *hash == 0)
+        && counts[..n].iter().all(|count| *count == 0)
 }
 
-// Whether the table has all of the first a IDs of one list and none of the first b of the other. Hints are worth making for many IDs only.
-fn lists_agree(table: &[u8], ours: &[u64], a: usize, theirs: &[u64], b: usize) -> bool
-    requires { (is_table first_eight table.now ≡ true) × (a ≤ length ours.now) × (b ≤ length theirs.now) }
-    ensures { result ≡ (every true (ids_of first_eight table.now) (take a ours.now) && every false (ids_of first_eight table.now) (take b theirs.now)) }
+// Whether the table has all IDs of one list and none of the other. Hints are worth making for many IDs only.
+fn lists_agree(table: &[u8], ours: &[u64], theirs: &[u64]) -> bool
+    requires { is_table first_eight table.now ≡ true }
+    ensures { result ≡ (every true (ids_of first_eight table.now) ours.now && every false (ids_of first_eight table.now) theirs.now) }
 {
-    if a + b < 256 {
-        let hint = [0u16; 1];
-        return lists_agree_by(table, &hint, ours, a, theirs, b);
+    if ours.len() + theirs.len() < 256 {
+        return lists_agree_by(table, None, ours, theirs);
     }
-    let mut hints = [0u16; 4096];
+    let mut hints = [0; 4096];
     crate::finding::fill(table, &mut hints);
-    lists_agree_by(table, &hints, ours, a, theirs, b)
+    lists_agree_by(table, Some(&hints), ours, theirs)
 }
 
-// The same with hints, for all beginnings of IDs or for some.
-fn lists_agree_by(
-    table: &[u8],
-    hints: &[u16],
-    ours: &[u64],
-    a: usize,
-    theirs: &[u64],
-    b: usize,
-) -> bool
-    requires { (is_table first_eight table.now ≡ true) × (a ≤ length ours.now) × (b ≤ length theirs.now) }
-    ensures { result ≡ (every true (ids_of first_eight table.now) (take a ours.now) && every false (ids_of first_eight table.now) (take b theirs.now)) }
+// The same with hints or without.
+fn lists_agree_by(table: &[u8], hints: Option<&Hints>, ours: &[u64], theirs: &[u64]) -> bool
+    requires { is_table first_eight table.now ≡ true }
+    ensures { result ≡ (every true (ids_of first_eight table.now) ours.now && every false (ids_of first_eight table.now) theirs.now) }
 {
-    if !all_held(table, hints, ours, a, true) {
-        return false;
-    }
-    all_held(table, hints, theirs, b, false)
-}
-
-// Whether each of the first n IDs of a list is in the table, or none is.
-fn all_held(table: &[u8], hints: &[u16], list: &[u64], n: usize, want: bool) -> bool
-    requires { (is_table first_eight table.now ≡ true) × (n ≤ length list.now) }
-    ensures { result ≡ every want (ids_of first_eight table.now) (take n list.now) }
-{
-    let mut i: usize = 0;
-    while i < n {
-        let held = crate::finding::is_held(table, hints, list[i]);
-        if held != want {
-            return false;
-        }
-        i += 1;
-    }
-    true
+    ours.iter().all(|id| is_held(table, hints, *id))
+        && !theirs.iter().any(|id| is_held(table, hints, *id))
 }

@@ -14,5 +14,6 @@ mod marks;
 mod peeling;
 pub mod reading;
 mod repeats;
+pub mod searching;
 mod strata;
 pub mod table;

@@ -81,7 +81,7 @@ fn read_difference(
     let a = p.ours;
     let b = p.theirs;
     let l = p.looked;
-    let v = crate::judging::judge(table, ids, hashes, counts, ours, theirs, p.fine, a, b, size);
+    let v = crate::judging::judge(table, ids, hashes, counts, &ours[..a], &theirs[..b], p.fine, size);
     match v {
         Verdict::Complete => Reading::Complete {
             ours: a,

@@ -9,11 +9,11 @@ use Rattle.filter.proofs.SpreadLaws.{sound_any}
 use Rattle.filter.proofs.TableLaws.{hashes-length, ids-length}
 use Rattle.filter.proofs.GatherLaws.{gathered-start, gathered-wide, gathered-small, gathered_next, gathered-end}
 use Rattle.filter.proofs.adding.add_table.Goals as goal
-use Rattle.filter.proofs.adding.add_table.Goals.{After-count-n}
+use Rattle.filter.proofs.adding.add_table.Goals.{After-count-e-end}
 
-counted : (c : After-count-n) → c.count-n.result ≡ length (ids_of first_eight c.args.table.now)
+counted : (c : After-count-e-end) → c.count-e-end.result ≡ length (ids_of first_eight c.args.table.now)
 counted c = let t = c.args.table.now in
-    c.count-n.ensures ∙ hashes-length t ∙ sym (ids-length first_eight t)
+    c.count-e-end.ensures ∙ hashes-length t ∙ sym (ids-length first_eight t)
 
 pub loop-e-init : goal.loop-e-init
 loop-e-init c = let a = c.args in
@@ -41,7 +41,7 @@ loop-e-preserved c = let t = c.add_element in
     (columns a.ids.now a.hashes.now a.counts.now) (columns w.ids w.hashes w.counts) w.e
     c.requires.4 w.invariant c.element_id-id.result c.salt-x.result (crc_of c.salt-x.result)
     ((layered a.top a.k a.size 0).places c.salt-x.result) (columns t.new.ids t.new.hashes t.new.counts)
-    (omega (arith, counted (goal.at.loop-e-preserved c).After-count-n, c.loop-e-test.true)) c.element_id-id.ensures c.salt-x.ensures
+    (omega (arith, counted (goal.at.loop-e-preserved c).After-count-e-end, c.loop-e-test.true)) c.element_id-id.ensures c.salt-x.ensures
     refl refl t.ensures
 
 pub shape_of-ids : goal.shape_of-ids
@@ -58,4 +58,4 @@ returns c = let w = c.loop-e in
     let a = c.args in
     gathered-end (layered a.top a.k a.size a.salt) (ids_of first_eight a.table.now)
     (columns a.ids.now a.hashes.now a.counts.now) (columns w.ids w.hashes w.counts) w.e
-    c.requires.4 w.invariant (omega (arith, counted (goal.at.returns c).After-count-n, c.loop-e-test.false))
+    c.requires.4 w.invariant (omega (arith, counted (goal.at.returns c).After-count-e-end, c.loop-e-test.false))

@@ -2,7 +2,6 @@
 -- there, and the counts stay far below 2^60.
 -- The invariant: the columns and the filter of the elements still to come are together the columns at the start and the filter of the table.
 -- Assumes nothing.
-use Prim.Native.Nat.{◌-◌}
 use Rattle.bucket.specs.Columns.{columns}
 use Rattle.filter.specs.Table.{first_eight, ids_of}
 use Rattle.filter.specs.Steps.{layered}
@@ -12,5 +11,3 @@ use Rattle.filter.proofs.adding.add_table.Given as goal
 abbrev pub invariant-loop-e : goal.invariant-loop-e
 invariant-loop-e l = Gathered (layered l.top l.k l.size l.salt) (ids_of first_eight l.table) (columns l.initial.ids l.initial.hashes l.initial.counts) (columns l.ids l.hashes l.counts) l.e
 
-abbrev pub decreases-loop-e : goal.decreases-loop-e
-decreases-loop-e l = l.n - l.e

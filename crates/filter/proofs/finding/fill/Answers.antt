@@ -1,6 +1,8 @@
+-- `finding::fill` is safe: a table has at most 4,096 hashes, so each place fits. What it writes are guesses, of which nothing is said. Assumes nothing.
 use native.Mathlib.Omega.{arith}
 use Rattle.filter.proofs.TableLaws.{hashes-length, table-count}
 use Rattle.filter.proofs.finding.fill.Goals as goal
 
-pub loop-e-init : goal.loop-e-init
-loop-e-init c = (omega arith, omega (arith, hashes-length c.args.table.now, table-count c.args.table.now c.requires.0), c.requires.1)
+pub overflow_cast-hints : goal.overflow_cast-hints
+overflow_cast-hints c = let t = c.args.table.now in
+    omega (arith, hashes-length t, table-count t c.requires)
