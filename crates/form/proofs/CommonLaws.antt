@@ -135,8 +135,8 @@ module _ (a b : List ℕ) (c i j : ℕ) (k : Merging a b c i j) (hi : i < length
       go true p false q r s = absurd (omega (arith, eqb-true x y p, leb-false x y q))
       go true p true q false s = absurd (omega (arith, eqb-true x y p, leb-false y x s))
       go false p true q true s = absurd (eqb-false x y p (omega (arith, leb-true x y q, leb-true y x s)))
-      go false p true q false s = rw (add-zero, add-zero) (left (leb-false y x s))
-      go false p false q true s = rw (add-zero, add-zero) (right (leb-false x y q))
+      go false p true q false s = rw (add-zero c, add-zero j) (left (leb-false y x s))
+      go false p false q true s = rw (add-zero c, add-zero i) (right (leb-false x y q))
       go false p false q false s = absurd (omega (arith, leb-false x y q, leb-false y x s))
 
 pub merging_end : (a b : List ℕ) (c i j : ℕ) → Merging a b c i j → (length a ≤ i) ⊎ (length b ≤ j) → c ≡ common a b
