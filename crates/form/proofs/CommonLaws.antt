@@ -1,21 +1,23 @@
 -- The merge of two ascending lists counts the numbers of the first that stand in the second. Assumes nothing.
 use mathlib.Core.Path.{◌≡◌, refl, sym, ap, ap₂, ◌∙◌}
 use mathlib.Core.Logic.{◌⊎◌, inl, inr}
-use mathlib.Core.Bool.{Bool, true, false, ◌&&◌}
+use mathlib.Core.Bool.{Bool, true, false}
 use mathlib.Core.List.{List, [], ◌∷◌}
 use Prim.Native.Nat.{ℕ, suc, ◌+◌, ◌≤◌, ◌<◌}
 use native.Mathlib.Numerals.{add-one}
+use native.Mathlib.Nat.{add-zero}
 use native.Mathlib.Omega.{arith}
-use lib.Dec.{ltb}
-use lib.ListN.{length, get_or, take, drop, length-take, drop_of_length-le}
-use lib.Seq.{drop-cons, get_or-take, length-take-le}
-use borrow.Author.Tests.{ltb-true, ltb-false}
+use lib.Dec.{eqb, leb}
+use lib.ListN.{length, get_or, drop, drop_of_length-le}
+use lib.Seq.{drop-cons}
+use borrow.Author.Tests.{eqb-true, eqb-false, leb-true, leb-false}
+use Rattle.std.specs.Int.{from_bool}
 use Rattle.bucket.specs.Lists.{elem}
 use Rattle.bucket.proofs.ListLaws.{elem-head, elem-cons_ne}
 use Rattle.filter.specs.Lists.{ascending, select}
 use Rattle.filter.proofs.SelectLaws.{mem_elem, select-agree, select_yes, select_no}
 use Rattle.form.specs.Tallies.{common}
-use Rattle.filter.proofs.SetLaws.{◌∈◌, and_l, and_r, not_in, in_cons, Asc, asc_of}
+use Rattle.filter.proofs.SetLaws.{◌∈◌, not_in, in_cons, Asc, asc_of}
 
 -- ---- the first numbers of two lists
 
@@ -60,116 +62,83 @@ module _ (a b : ℕ) (l m : List ℕ) (hl : Asc (a ∷ l)) (hm : Asc (b ∷ m)) 
   pub common-right : b < a → common (a ∷ l) (b ∷ m) ≡ common (a ∷ l) m
   common-right h = common_skip b (a ∷ l) m (λ x k q. above a l hl x b h k q)
 
--- ---- the first n numbers of a and the first m of b, one after another
+-- ---- a and b, one after another
 
-pub both_below : (i n j m : ℕ) → ltb i n && ltb j m ≡ true → (i < n) × (j < m)
-both_below i n j m e = (ltb-true i n (and_l (ltb i n) (ltb j m) e), ltb-true j m (and_r (ltb i n) (ltb j m) e))
-
-one-past : (i n j m : ℕ) → ltb i n && ltb j m ≡ false → (n ≤ i) ⊎ (m ≤ j)
-one-past i n j m e = go (ltb i n) refl e
-  where
-    go : (t : Bool) → ltb i n ≡ t → t && ltb j m ≡ false → (n ≤ i) ⊎ (m ≤ j)
-    go true p q = inr (ltb-false j m q)
-    go false p q = inl (ltb-false i n p)
-
-pub record Merging (a : List ℕ) (n : ℕ) (b : List ℕ) (m c i j : ℕ) : Type 0 where
+pub record Merging (a b : List ℕ) (c i j : ℕ) : Type 0 where
   pub few : c ≤ i
-  pub in_a_lem : i ≤ n
-  pub in_b : j ≤ m
-  pub room-a : n ≤ length a
-  pub room-b : m ≤ length b
-  pub asc-a : Asc (drop i (take n a))
-  pub asc-b : Asc (drop j (take m b))
-  pub rest : c + common (drop i (take n a)) (drop j (take m b)) ≡ common (take n a) (take m b)
+  pub in_a : i ≤ length a
+  pub in_b : j ≤ length b
+  pub asc-a : Asc (drop i a)
+  pub asc-b : Asc (drop j b)
+  pub rest : c + common (drop i a) (drop j b) ≡ common a b
 
-pub merging_start : (a : List ℕ) (n : ℕ) (b : List ℕ) (m : ℕ) → n ≤ length a → m ≤ length b → ascending (take n a) ≡ true → ascending (take m b) ≡ true
-    → Merging a n b m 0 0 0
-merging_start a n b m ra rb p q =
-    record {
-      few = omega arith;
-      in_a_lem = omega arith;
-      in_b = omega arith;
-      room-a = ra;
-      room-b = rb;
-      asc-a = asc_of (take n a) p;
-      asc-b = asc_of (take m b) q;
-      rest = omega arith;
-    }
+pub merging_start : (a b : List ℕ) → ascending a ≡ true → ascending b ≡ true → Merging a b 0 0 0
+merging_start a b p q = record { few = omega arith; in_a = omega arith; in_b = omega arith; asc-a = asc_of a p; asc-b = asc_of b q; rest = omega arith }
 
-split_at : (a : List ℕ) (n i : ℕ) → n ≤ length a → i < n → drop i (take n a) ≡ get_or a i 0 ∷ drop (i + 1) (take n a)
-split_at a n i r h =
-    drop-cons (take n a) i 0 (omega (arith, length-take-le n a r))
-    ∙ ap₂ (λ (x k : ℕ). x ∷ drop k (take n a)) (get_or-take n a i 0 h) (sym (add-one i))
+split_at : (a : List ℕ) (i : ℕ) → i < length a → drop i a ≡ get_or a i 0 ∷ drop (i + 1) a
+split_at a i h = drop-cons a i 0 h ∙ ap (λ (k : ℕ). get_or a i 0 ∷ drop k a) (sym (add-one i))
 
--- at two numbers
-module _ (a : List ℕ) (n : ℕ) (b : List ℕ) (m c i j : ℕ) (k : Merging a n b m c i j) (go : ltb i n && ltb j m ≡ true) where
-  hi : i < n
-  hi = (both_below i n j m go).0
+-- at two numbers: one goes on, or both
+module _ (a b : List ℕ) (c i j : ℕ) (k : Merging a b c i j) (hi : i < length a) (hj : j < length b) where
+  abbrev pub x : ℕ
+  x = get_or a i 0
 
-  hj : j < m
-  hj = (both_below i n j m go).1
+  abbrev pub y : ℕ
+  y = get_or b j 0
 
-  split_a : drop i (take n a) ≡ get_or a i 0 ∷ drop (i + 1) (take n a)
-  split_a = split_at a n i k.room-a hi
+  sorted-a : Asc (x ∷ drop (i + 1) a)
+  sorted-a = rw (split_at a i hi) at k.asc-a
 
-  split_b : drop j (take m b) ≡ get_or b j 0 ∷ drop (j + 1) (take m b)
-  split_b = split_at b m j k.room-b hj
+  sorted-b : Asc (y ∷ drop (j + 1) b)
+  sorted-b = rw (split_at b j hj) at k.asc-b
 
-  sorted-a : Asc (get_or a i 0 ∷ drop (i + 1) (take n a))
-  sorted-a = rw split_a at k.asc-a
+  rest-here : c + common (x ∷ drop (i + 1) a) (y ∷ drop (j + 1) b) ≡ common a b
+  rest-here = ap₂ (λ (p q : List ℕ). c + common p q) (sym (split_at a i hi)) (sym (split_at b j hj)) ∙ k.rest
 
-  sorted-b : Asc (get_or b j 0 ∷ drop (j + 1) (take m b))
-  sorted-b = rw split_b at k.asc-b
+  both : x ≡ y → Merging a b (c + 1) (i + 1) (j + 1)
+  both e = record {
+    few = omega (arith, k.few);
+    in_a = omega (arith, hi);
+    in_b = omega (arith, hj);
+    asc-a = sorted-a.1;
+    asc-b = sorted-b.1;
+    rest = omega (arith, rest-here, common_both x y (drop (i + 1) a) (drop (j + 1) b) sorted-a sorted-b e);
+  }
 
-  rest-here : c + common (get_or a i 0 ∷ drop (i + 1) (take n a)) (get_or b j 0 ∷ drop (j + 1) (take m b)) ≡ common (take n a) (take m b)
-  rest-here = ap₂ (λ (p q : List ℕ). c + common p q) (sym split_a) (sym split_b) ∙ k.rest
+  left : x < y → Merging a b c (i + 1) j
+  left h = record {
+    few = omega (arith, k.few);
+    in_a = omega (arith, hi);
+    in_b = k.in_b;
+    asc-a = sorted-a.1;
+    asc-b = k.asc-b;
+    rest = ap (λ (q : List ℕ). c + common (drop (i + 1) a) q) (split_at b j hj)
+        ∙ omega (arith, rest-here, common-left x y (drop (i + 1) a) (drop (j + 1) b) sorted-a sorted-b h);
+  }
 
-  pub merging_both : get_or a i 0 ≡ get_or b j 0 → Merging a n b m (c + 1) (i + 1) (j + 1)
-  merging_both e =
-      record {
-        few = omega (arith, k.few);
-        in_a_lem = omega (arith, hi);
-        in_b = omega (arith, hj);
-        room-a = k.room-a;
-        room-b = k.room-b;
-        asc-a = sorted-a.1;
-        asc-b = sorted-b.1;
-        rest = omega (arith, rest-here, common_both (get_or a i 0) (get_or b j 0) (drop (i + 1) (take n a)) (drop (j + 1) (take m b)) sorted-a sorted-b e);
-      }
+  right : y < x → Merging a b c i (j + 1)
+  right h = record {
+    few = k.few;
+    in_a = k.in_a;
+    in_b = omega (arith, hj);
+    asc-a = k.asc-a;
+    asc-b = sorted-b.1;
+    rest = ap (λ (p : List ℕ). c + common p (drop (j + 1) b)) (split_at a i hi)
+        ∙ omega (arith, rest-here, common-right x y (drop (i + 1) a) (drop (j + 1) b) sorted-a sorted-b h);
+  }
 
-  pub merging_left : get_or a i 0 < get_or b j 0 → Merging a n b m c (i + 1) j
-  merging_left h =
-      record {
-        few = omega (arith, k.few);
-        in_a_lem = omega (arith, hi);
-        in_b = k.in_b;
-        room-a = k.room-a;
-        room-b = k.room-b;
-        asc-a = sorted-a.1;
-        asc-b = k.asc-b;
-        rest = ap (λ (q : List ℕ). c + common (drop (i + 1) (take n a)) q) split_b
-            ∙ omega (arith, rest-here, common-left (get_or a i 0) (get_or b j 0) (drop (i + 1) (take n a)) (drop (j + 1) (take m b)) sorted-a sorted-b h);
-      }
+  pub merging_next : Merging a b (c + from_bool (eqb x y)) (i + from_bool (leb x y)) (j + from_bool (leb y x))
+  merging_next = go (eqb x y) refl (leb x y) refl (leb y x) refl
+    where
+      go : (e : Bool) → eqb x y ≡ e → (l : Bool) → leb x y ≡ l → (r : Bool) → leb y x ≡ r → Merging a b (c + from_bool e) (i + from_bool l) (j + from_bool r)
+      go true p true q true s = both (eqb-true x y p)
+      go true p false q r s = absurd (omega (arith, eqb-true x y p, leb-false x y q))
+      go true p true q false s = absurd (omega (arith, eqb-true x y p, leb-false y x s))
+      go false p true q true s = absurd (eqb-false x y p (omega (arith, leb-true x y q, leb-true y x s)))
+      go false p true q false s = rw (add-zero c, add-zero j) (left (leb-false y x s))
+      go false p false q true s = rw (add-zero c, add-zero i) (right (leb-false x y q))
+      go false p false q false s = absurd (omega (arith, leb-false x y q, leb-false y x s))
 
-  pub merging_right : get_or b j 0 < get_or a i 0 → Merging a n b m c i (j + 1)
-  merging_right h =
-      record {
-        few = k.few;
-        in_a_lem = k.in_a_lem;
-        in_b = omega (arith, hj);
-        room-a = k.room-a;
-        room-b = k.room-b;
-        asc-a = k.asc-a;
-        asc-b = sorted-b.1;
-        rest = ap (λ (p : List ℕ). c + common p (drop (j + 1) (take m b))) split_a
-            ∙ omega (arith, rest-here, common-right (get_or a i 0) (get_or b j 0) (drop (i + 1) (take n a)) (drop (j + 1) (take m b)) sorted-a sorted-b h);
-      }
-
-pub merging_end : (a : List ℕ) (n : ℕ) (b : List ℕ) (m c i j : ℕ) → Merging a n b m c i j → ltb i n && ltb j m ≡ false → c ≡ common (take n a) (take m b)
-merging_end a n b m c i j k e = go (one-past i n j m e)
-  where
-    go : (n ≤ i) ⊎ (m ≤ j) → c ≡ common (take n a) (take m b)
-    go (inl h) =
-        omega (arith, k.rest, ap (λ (p : List ℕ). common p (drop j (take m b))) (drop_of_length-le (take n a) {i = i} (omega (arith, length-take n a))) ∙ common-nil-l (drop j (take m b)))
-    go (inr h) =
-        omega (arith, k.rest, ap (common (drop i (take n a))) (drop_of_length-le (take m b) {i = j} (omega (arith, length-take m b))) ∙ common-nil-r (drop i (take n a)))
+pub merging_end : (a b : List ℕ) (c i j : ℕ) → Merging a b c i j → (length a ≤ i) ⊎ (length b ≤ j) → c ≡ common a b
+merging_end a b c i j k (inl h) = omega (arith, k.rest, ap (λ (p : List ℕ). common p (drop j b)) (drop_of_length-le a {i = i} h) ∙ common-nil-l (drop j b))
+merging_end a b c i j k (inr h) = omega (arith, k.rest, ap (common (drop i a)) (drop_of_length-le b {i = j} h) ∙ common-nil-r (drop i a))

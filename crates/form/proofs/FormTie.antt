@@ -10,7 +10,7 @@ use borrow.Author.Tests.{eqb-true, leb-true, le-leb}
 use Rattle.bucket.specs.Lists.{part}
 use Rattle.bucket.proofs.TestLaws.{and_holds}
 use Rattle.filter.specs.Lists.{ascending}
-use Rattle.filter.specs.Table.{first_eight, hashes_of, is_table}
+use Rattle.filter.specs.Table.{first_eight, hashes_of, ids_of as ids_in, is_table}
 use Rattle.filter.proofs.OrderLaws.{same_test}
 use Rattle.ledger.specs.declared.numbers.Numbers.{Numbers}
 use Rattle.filter.specs.Sets.{◌∪◌, within, all, implies, same}
@@ -19,8 +19,8 @@ use Rattle.ledger.specs.Session.{Ledger, ids_of, all_came}
 use Rattle.ledger.specs.Form.{nothing, good_books, good_part, good_whole}
 use Rattle.ledger.specs.Memory.{is_asked, is_offered, is_served, is_met, Memory, marked, all_below, decode, encode, marks_of, flags_of}
 use Rattle.ledger.specs.Calls.{Given, memory_of, table_of, session_of, counts_nothing, good_front, there, is_whole, good_back}
-use Rattle.form.specs.Tallies.{table_mark, record_mark, met_count, is_zero, common}
-use Rattle.form.specs.Tallies.{idle, form_by, good_tally}
+use Rattle.form.specs.declared.tallying.Counts.{Counts}
+use Rattle.form.specs.Tallies.{table_mark, record_mark, met_count, is_zero, common, idle, form_by, good_tally}
 use Rattle.filter.proofs.SetLaws.{and_l, and_r, asc_of, of_asc}
 use Rattle.filter.proofs.ListLaws.{length-nil, within_of, implies_of, of_implies, same_of, of_same}
 use Rattle.ledger.proofs.BookLaws.{Table, Books, table_of_lem, books_of, of_books}
@@ -52,15 +52,25 @@ module _ (N : Numbers) (t : List ℕ) (M : Memory) where
   abbrev came_all : Bool
   came_all = eqb (common M.inquired ts + met_count M.flags) (length M.inquired)
 
+  abbrev counts : Counts
+  counts = record {
+    elements = length ts;
+    demanded = length ks;
+    inquired = length M.inquired;
+    both = common ks ts;
+    came = common M.inquired ts;
+    wanted = common ks M.inquired;
+    met = met_count M.flags;
+    unmarked = all is_zero M.marks;
+  }
+
   -- by counting; whether the records are a table is told, and whether the ledger is whole
   unfoldable by_count : (known whole : Bool) → Bool
   by_count known whole =
       known
       && (ascending M.inquired
       && (all table_mark M.marks
-      && (all record_mark M.flags
-      && form_by N.state N.first N.done (length ts) (length ks) (length M.inquired) (common ks ts) (common M.inquired ts)
-      (common ks M.inquired) (met_count M.flags) (all is_zero M.marks) whole)))
+      && (all record_mark M.flags && form_by N counts whole)))
 
   unfoldable by_ledger : Bool → Bool
   by_ledger whole =
@@ -236,9 +246,15 @@ module _ (G : Given) (front : good_front first_eight G ≡ true) where
   good : Table first_eight (table_of G)
   good = table_of_lem first_eight G.table (front-table G front)
 
-  said-count : good_tally (there G).numbers (is_whole G) G.table known G.marks (take (there G).numbers.inquired G.inquired)
+  -- the test of the code
+  abbrev pub tested_good : Bool
+  tested_good =
+      good_tally (there G).numbers (is_whole G) G.table known (take (length (ids_in first_eight G.table)) G.marks)
+      (part 4096 (length (ids_in first_eight known)) G.marks) (take (there G).numbers.inquired G.inquired)
+
+  said-count : tested_good
       ≡ by_count (there G).numbers (table_of G) (memory_of (there G)) (is_table first_eight known) (is_whole G)
-  unfolding good_tally by_count memory_of ids_of Rattle.filter.specs.Table.ids_of
+  unfolding good_tally by_count memory_of ids_of ids_in
   said-count =
       ap₂ (λ (a c : ℕ). by_count (there G).numbers (table_of G) (memory a c) (is_table first_eight known) (is_whole G))
       (length-map (table_of G) first_eight) (length-map (hashes_of known) first_eight ∙ known-count (there G) fits)
@@ -274,7 +290,7 @@ module _ (G : Given) (front : good_front first_eight G ≡ true) where
   unfolding memory_of
   marks-few = omega (arith, length-take (length (table_of G)) G.marks)
 
-  pub form_tie : good_tally (there G).numbers (is_whole G) G.table known G.marks (take (there G).numbers.inquired G.inquired) ≡ good_back first_eight G
+  pub form_tie : tested_good ≡ good_back first_eight G
   unfolding memory_of session_of
   form_tie =
       let N = (there G).numbers in

@@ -8,7 +8,8 @@ use mathlib.Core.Bool.{Bool, true, false, ◌&&◌, cond, and_assoc}
 use Prim.Native.Nat.{ℕ, ◌+◌, ◌-◌, ◌*◌, ◌≤◌}
 use lib.Dec.{eqb, leb}
 use lib.ListN.{length, take}
-use Rattle.bucket.specs.Lists.{part}
+use Rattle.std.specs.Option.{is_some}
+use Rattle.std.proofs.Common.{Option, Some, None}
 use Rattle.filter.specs.Calls.{in_range, are_counts}
 use Rattle.filter.specs.Sets.{implies}
 use Rattle.filter.specs.Table.{first_eight, ids_of, is_table}
@@ -18,15 +19,15 @@ use Rattle.ledger.specs.Form.{good_numbers, idle}
 use Rattle.ledger.specs.Calls.{Given, session_of, readable, counts_nothing, good_front, there, is_whole, good_back, good_form}
 use Rattle.ledger.proofs.GivenLaws.{front-table, front-readable, readable-few}
 use Rattle.form.specs.declared.tallying.Tally.{Tally}
-use Rattle.form.specs.Tallies.{met_count, common, tallied, good_tally, tally_of, tally_there, numbers_fit, front_by, judged_by}
-use Rattle.form.proofs.FormTie.{form_tie}
+use Rattle.form.specs.Tallies.{tally_of, tally_there, numbers_fit, front_by, judged_by}
+use Rattle.form.proofs.FormTie.{tested_good, form_tie}
 use Rattle.form.proofs.TallyLaws.{tally_given}
 
 module _ (G : Given) where
   abbrev front : Bool
   front = front_by G.numbers G.table G.columns.counts
 
-  abbrev pub judged_in : Tally
+  abbrev pub judged_in : Option Tally
   judged_in = judged_by G.numbers G.table G.records G.marks G.inquired G.columns.counts
 
   regroup : (a b c d e f g h x : Bool)
@@ -49,37 +50,29 @@ module _ (G : Given) where
     pub judged_on : (is_table first_eight G.table ≡ true) × (G.numbers.demanded ≤ 4096) × (G.numbers.inquired ≤ 4096)
     judged_on = let few = readable-few G.numbers (front-readable G front-good) in (front-table G front-good, few.2, few.3)
 
-    -- the tally says whether the form is good
-    back_tie : (tally_given G).good ≡ good_back first_eight G
+    -- that there is a tally says whether the form is good
+    back_tie : is_some (tally_given G) ≡ good_back first_eight G
     unfolding tally_there is_whole tally_of
-    back_tie =
-        let N = (there G).numbers in
-        let t = ids_of first_eight G.table in
-        let ks = ids_of first_eight (take (64 * N.demanded) G.records) in
-        let I = take N.inquired G.inquired in
-        let met = met_count (part 4096 (length ks) G.marks) in
-        told (good_tally N (is_whole G) G.table (take (64 * N.demanded) G.records) G.marks I)
-        (length t + length ks + length I - common I t - common ks I) (common I t + met) (length ks - met)
-        ∙ form_tie G front-good
+    back_tie = said (tested_good G front-good) _ ∙ form_tie G front-good
       where
-        told : (b : Bool) (x y z : ℕ) → (cond b (tallied true x y z) (tallied false 0 0 0)).good ≡ b
-        told true x y z = refl
-        told false x y z = refl
+        said : (b : Bool) (T : Tally) → is_some (cond b (Some T) None) ≡ b
+        said true T = refl
+        said false T = refl
 
   -- the two ways of `judge`
-  pub judged_not : front ≡ false → tallied false 0 0 0 ≡ judged_in
+  pub judged_not : front ≡ false → None ≡ judged_in
   unfolding judged_by
-  judged_not e = ap (λ (b : Bool). cond b (tally_given G) (tallied false 0 0 0)) (sym e)
+  judged_not e = ap (λ (b : Bool). cond b (tally_given G) None) (sym e)
 
   pub judged_so : front ≡ true → tally_given G ≡ judged_in
   unfolding judged_by
-  judged_so e = ap (λ (b : Bool). cond b (tally_given G) (tallied false 0 0 0)) (sym e)
+  judged_so e = ap (λ (b : Bool). cond b (tally_given G) None) (sym e)
 
-  pub judged-form : judged_in.good ≡ good_form first_eight G
+  pub judged-form : is_some judged_in ≡ good_form first_eight G
   unfolding judged_by good_form
   judged-form = go front refl
     where
-      go : (b : Bool) → front ≡ b → (cond b (tally_given G) (tallied false 0 0 0)).good ≡ good_front first_eight G && good_back first_eight G
+      go : (b : Bool) → front ≡ b → is_some (cond b (tally_given G) None) ≡ good_front first_eight G && good_back first_eight G
       go true e = back_tie e ∙ ap (λ (b : Bool). b && good_back first_eight G) (sym e ∙ front_tie)
       go false e = ap (λ (b : Bool). b && good_back first_eight G) (sym e ∙ front_tie)
 

@@ -1,6 +1,7 @@
 -- The laws of the crate `form`: its judging by counting is refusal 1's test, and what the counts are.
 pub mod AllOfLaws
 pub mod CommonLaws
+pub mod GridTie
 pub mod CountLaws
 pub mod MarkTests
 pub mod TestedLaws

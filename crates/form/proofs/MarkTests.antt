@@ -8,6 +8,7 @@ use native.Mathlib.Omega.{arith}
 use lib.Dec.{eqb, ltb}
 use lib.ListN.{length, replicate}
 use borrow.Author.Tests.{eqb-true, eq-eqb, lt-ltb}
+use Rattle.std.proofs.lemmas.List.Sums.{sum_by-cons}
 use Rattle.bucket.specs.Lists.{elem}
 use Rattle.bucket.proofs.ListLaws.{elem-head, elem_tail, or_true_r}
 use Rattle.bucket.proofs.TestLaws.{and_holds}
@@ -139,11 +140,11 @@ all-padded p z (m ∷ ms) j = ap (λ (b : Bool). p m && b) (all-padded p z ms j)
 
 -- how many are met
 pub marked-count : (l ms : List ℕ) → length ms ≡ length l → length (marked is_met l ms) ≡ met_count ms
-unfolding marked met_count
+unfolding marked
 marked-count [] [] e = refl
 marked-count [] (m ∷ ms) e = absurd (omega arith)
 marked-count (a ∷ l) [] e = absurd (omega arith)
-marked-count (a ∷ l) (m ∷ ms) e = go (is_met m) (marked-count l ms (omega arith))
+marked-count (a ∷ l) (m ∷ ms) e = go (is_met m) (marked-count l ms (omega arith)) ∙ sym (sum_by-cons (λ x. cond (is_met x) 1 0) m ms)
   where
     go : (b : Bool) → length (marked is_met l ms) ≡ met_count ms → length (cond b (a ∷ marked is_met l ms) (marked is_met l ms)) ≡ cond b 1 0 + met_count ms
     go true ih = omega arith

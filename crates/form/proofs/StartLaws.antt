@@ -1,12 +1,15 @@
 -- The two starts, over variables: each answer is the definition's at the test that failed, and behind them what was cleared and written is the
 -- definition's memory. Assumes nothing.
-use mathlib.Core.Path.{◌≡◌, refl, ap, ◌∙◌}
+use mathlib.Core.Path.{◌≡◌, refl, ap, ap₂, ◌∙◌}
+use mathlib.Core.Logic.{◌⊎◌, inl, inr}
 use mathlib.Core.Bool.{Bool, true, false, not, ◌&&◌, ◌||◌, true≢false}
-use mathlib.Core.List.{List, []}
-use Prim.Native.Nat.{ℕ, ◌≤◌, ◌<◌}
+use mathlib.Core.List.{List, [], ◌++◌}
+use Prim.Native.Nat.{ℕ, ◌+◌, ◌≤◌, ◌<◌}
 use borrow.Author.Tests.{ltb-false, le-leb, lt-leb}
 use lib.Dec.{ltb, leb}
-use lib.ListN.{length, replicate}
+use native.Mathlib.Omega.{arith}
+use lib.ListN.{length, take, drop, replicate, length-replicate}
+use lib.Seq.{length-take-le}
 use Rattle.bucket.specs.Lists.{over}
 use Rattle.filter.specs.Calls.{in_range}
 use Rattle.filter.specs.Table.{first_eight, hashes_of, ids_of, is_table}
@@ -16,6 +19,13 @@ use Rattle.ledger.specs.declared.numbers.Answer.{Answer}
 use Rattle.ledger.specs.Session.{ids_of as ids_in, own_filter}
 use Rattle.ledger.specs.Calls.{numbered, answered, no_session, starting, start_receiver, start_sender}
 use Rattle.ledger.proofs.CallLaws.{leb_not_ltb}
+
+-- the first n marks filled with zeros
+pub cleared : (n : ℕ) (marks zeros : List ℕ) → n ≤ length marks → zeros ≡ replicate (length (take n marks)) 0 → zeros ++ drop n marks ≡ over 0 (replicate n 0) marks
+unfolding over
+cleared n marks zeros h e =
+    let all : n ≡ 0 + length (replicate {A = ℕ} n 0) = omega (arith, length-replicate {A = ℕ} n 0) in
+    ap₂ (λ (z : List ℕ) (k : ℕ). z ++ drop k marks) (e ∙ ap (λ (k : ℕ). replicate k 0) (length-take-le n marks h)) all
 
 -- ---- the receiver's
 
@@ -36,21 +46,6 @@ module _ (t marks : List ℕ) {a : Answer} where
 
 -- ---- the sender's
 
--- two rooms tested at once
-both_rooms : (a b : Bool) → not a && not b ≡ not (a || b)
-both_rooms true b = refl
-both_rooms false b = refl
-
-rooms_tested : (m n k l : ℕ) {t : Bool} → ltb k m || ltb l n ≡ t → leb m k && leb n l ≡ not t
-rooms_tested m n k l e = rw (leb_not_ltb m k, leb_not_ltb n l) (both_rooms (ltb k m) (ltb l n) ∙ ap not e)
-
-pub rooms-there : (m n k l : ℕ) → ltb k m || ltb l n ≡ false → (m ≤ k) × (n ≤ l)
-rooms-there m n k l e = go (ltb k m) (ltb l n) refl refl e
-  where
-    go : (a b : Bool) → ltb k m ≡ a → ltb l n ≡ b → a || b ≡ false → (m ≤ k) × (n ≤ l)
-    go false b x y h = (ltb-false k m x, ltb-false l n (y ∙ h))
-    go true b x y h = absurd (true≢false h)
-
 -- the IDs of a table
 ids-same : (t : List ℕ) → ids_of first_eight t ≡ ids_in first_eight (hashes_of t)
 unfolding ids_of ids_in
@@ -67,15 +62,16 @@ module _ (size salt : ℕ) (t marks out : List ℕ) {a : Answer} where
     sender-out_of_range h e = rw (table, h, e)
 
     module _ (range : in_range size salt ≡ true) where
-      pub sender_no_room : ltb (length marks) 8192 || ltb (length out) 295008 ≡ true → a ≡ answered 2 0 0 no_session
+      pub sender_no_room : (length marks < 8192) ⊎ ((8192 ≤ length marks) × (length out < 295008)) → a ≡ answered 2 0 0 no_session
           → starting a marks out ≡ start_sender first_eight size salt t marks out
       unfolding start_sender
-      sender_no_room h e = rw (table, range, rooms_tested 8192 295008 (length marks) (length out) h, e)
+      sender_no_room (inl h) e = rw (table, range, lt-leb 8192 (length marks) h, e)
+      sender_no_room (inr h) e = rw (table, range, le-leb 8192 (length marks) h.0, lt-leb 295008 (length out) h.1, e)
 
-      pub sender_starts : ltb (length marks) 8192 || ltb (length out) 295008 ≡ false → {N : Numbers} {n sent : ℕ} {marks' out' : List ℕ}
+      pub sender_starts : 8192 ≤ length marks → 295008 ≤ length out → {N : Numbers} {n sent : ℕ} {marks' out' : List ℕ}
           → N ≡ numbered 3 1 size salt 0 0 0 0 0 → a ≡ answered 0 sent 0 N → n ≡ length (hashes_of t) → marks' ≡ over 0 (replicate n 0) marks
           → sent ≡ length (layouts (own_filter (ids_of first_eight t) size salt)) → out' ≡ over 0 (layouts (own_filter (ids_of first_eight t) size salt)) out
           → starting a marks' out' ≡ start_sender first_eight size salt t marks out
       unfolding start_sender
-      sender_starts h en ea el em es eo =
-          rw (table, range, rooms_tested 8192 295008 (length marks) (length out) h, ea, en, em, el, eo, es, ids-same t)
+      sender_starts h g en ea el em es eo =
+          rw (table, range, le-leb 8192 (length marks) h, le-leb 295008 (length out) g, ea, en, em, el, eo, es, ids-same t)

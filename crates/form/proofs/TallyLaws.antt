@@ -8,9 +8,10 @@ use native.Mathlib.Omega.{arith}
 use lib.Dec.{eqb}
 use lib.ListN.{length, take, length-map}
 use borrow.Author.Tests.{eqb-true, eq-eqb, ne_eqb}
+use Rattle.std.proofs.Common.{Option, Some, None}
 use Rattle.bucket.specs.Lists.{elem, part}
 use Rattle.bucket.proofs.TestLaws.{cond-made}
-use Rattle.filter.specs.Table.{first_eight, hashes_of}
+use Rattle.filter.specs.Table.{first_eight, hashes_of, ids_of as ids_in}
 use Rattle.filter.proofs.OrderLaws.{same_test}
 use Rattle.ledger.specs.declared.numbers.Numbers.{Numbers}
 use Rattle.form.specs.declared.tallying.Tally.{Tally}
@@ -18,8 +19,7 @@ use Rattle.filter.specs.Sets.{insert, is_nil, count}
 use Rattle.ledger.specs.Session.{Ledger, ids_of, unmet, gaining, concerned, all_came}
 use Rattle.ledger.specs.Memory.{decode}
 use Rattle.ledger.specs.Calls.{Given, memory_of, table_of, session_of, there, is_whole}
-use Rattle.form.specs.Tallies.{met_count, common}
-use Rattle.form.specs.Tallies.{tallied, good_tally, tally_of, tally_there}
+use Rattle.form.specs.Tallies.{met_count, common, good_tally, tally_of, tally_there}
 use Rattle.filter.proofs.SetLaws.{◌∈◌, asc-distinct}
 use Rattle.filter.proofs.ListLaws.{all_of}
 use Rattle.ledger.proofs.BookLaws.{Books}
@@ -59,30 +59,36 @@ module _ (derive : ℕ → ℕ) (t : List ℕ) (L : Ledger) (b : Books derive t 
 abbrev pub ledger_of : Given → Ledger
 ledger_of G = (session_of first_eight G).ledger
 
-abbrev pub tally_given : Given → Tally
+abbrev pub tally_given : Given → Option Tally
 tally_given G = tally_there G.numbers G.table G.records G.marks G.inquired
 
--- of a good form, by the hashes
-tally_of_lem : (N : Numbers) (whole : Bool) (table known M I : List ℕ) → good_tally N whole table known M I ≡ true
-    → tally_of N whole table known M I
-    ≡ tallied true
-    (length (hashes_of table) + length (hashes_of known) + length I - common I (ids_of first_eight (hashes_of table)) - common (ids_of first_eight (hashes_of known)) I)
-    (common I (ids_of first_eight (hashes_of table)) + met_count (part 4096 (length (hashes_of known)) M))
-    (length (hashes_of known) - met_count (part 4096 (length (hashes_of known)) M))
-unfolding tally_of ids_of Rattle.filter.specs.Table.ids_of
-tally_of_lem N whole table known M I e =
-    sym (cond-made (counted (length ts) (length ks)) (tallied false 0 0 0) e)
-    ∙ ap₂ counted (length-map (hashes_of table) first_eight) (length-map (hashes_of known) first_eight)
-  where
-    ts : List ℕ
-    ts = ids_of first_eight (hashes_of table)
+abbrev tallied : ℕ → ℕ → ℕ → Tally
+tallied concerned came unmet = record { concerned = concerned; came = came; unmet = unmet }
 
-    ks : List ℕ
-    ks = ids_of first_eight (hashes_of known)
+-- what is told of a good form, by the hashes
+module _ (table known M I : List ℕ) where
+  abbrev ts : List ℕ
+  ts = ids_of first_eight (hashes_of table)
 
-    counted : ℕ → ℕ → Tally
-    counted nt n =
-        tallied true (nt + n + length I - common I ts - common ks I) (common I ts + met_count (part 4096 n M)) (n - met_count (part 4096 n M))
+  abbrev ks : List ℕ
+  ks = ids_of first_eight (hashes_of known)
+
+  abbrev counted : ℕ → ℕ → Tally
+  counted nt n = tallied (nt + n + length I - common I ts - common ks I) (common I ts + met_count (part 4096 n M)) (n - met_count (part 4096 n M))
+
+  -- the marks of the table's elements, and those of the demanded hashes
+  abbrev front : List ℕ
+  front = take (length (ids_in first_eight table)) M
+
+  abbrev flags : List ℕ
+  flags = part 4096 (length (ids_in first_eight known)) M
+
+  told : (N : Numbers) (whole : Bool) → good_tally N whole table known front flags I ≡ true
+      → tally_of N whole table known front flags I ≡ Some (counted (length (hashes_of table)) (length (hashes_of known)))
+  unfolding tally_of ids_of ids_in
+  told N whole e =
+      sym (cond-made (Some (counted (length ts) (length ks))) None e)
+      ∙ ap₂ (λ (nt n : ℕ). Some (counted nt n)) (length-map (hashes_of table) first_eight) (length-map (hashes_of known) first_eight)
 
 module _ (G : Given) (s : Sound G) where
   met-gained : length (ledger_of G).gained ≡ met_count (part 4096 (length (hashes_of (take (64 * G.numbers.demanded) G.records))) G.marks)
@@ -91,44 +97,6 @@ module _ (G : Given) (s : Sound G) where
       marked-count (memory_of G).records (memory_of G).flags (flags-all G (given_ledgered G s))
       ∙ ap (λ (n : ℕ). met_count (part 4096 n G.marks)) (sym (given-count G s))
 
-  -- in the terms of the ledger
-  tally_is : tally_given G
-      ≡ tallied true (count (concerned first_eight (table_of G) (ledger_of G)))
-      (common (ledger_of G).inquired (ids_of first_eight (table_of G)) + length (ledger_of G).gained)
-      (length (unmet (ledger_of G)))
-  unfolding tally_there is_whole session_of decode memory_of
-  tally_is =
-      tally_of_lem (there G).numbers (is_whole G) G.table (take (64 * (there G).numbers.demanded) G.records) G.marks
-      (take (there G).numbers.inquired G.inquired)
-      (form_tie G (given-front G s) ∙ given_back G s)
-      ∙ ap counted (given-all G s)
-      ∙ (λ i.
-      tallied true (sym (books-count first_eight (table_of G) (ledger_of G) (given-books G s) (given-good G s)) i)
-      (common (ledger_of G).inquired (ids_of first_eight (table_of G)) + sym met-gained i)
-      (left i))
-    where
-      counted : Given → Tally
-      counted H =
-          let t = table_of H in
-          let K = hashes_of (take (64 * H.numbers.demanded) H.records) in
-          let I = take H.numbers.inquired H.inquired in
-          let met = met_count (part 4096 (length K) H.marks) in
-          tallied true (length t + length K + length I - common I (ids_of first_eight t) - common (ids_of first_eight K) I)
-          (common I (ids_of first_eight t) + met) (length K - met)
-
-      left : length (hashes_of (take (64 * G.numbers.demanded) G.records)) - met_count (part 4096 (length (hashes_of (take (64 * G.numbers.demanded) G.records))) G.marks)
-          ≡ length (unmet (ledger_of G))
-      left = omega (arith, met-gained, unmet-count first_eight (table_of G) (ledger_of G) (given-books G s))
-
-  pub tally_concerned : (tally_given G).concerned ≡ count (concerned first_eight (table_of G) (ledger_of G))
-  tally_concerned = ap (λ (T : Tally). T.concerned) tally_is
-
-  unmet_is : (tally_given G).unmet ≡ length (unmet (ledger_of G))
-  unmet_is = ap (λ (T : Tally). T.unmet) tally_is
-
-  came_is : (tally_given G).came ≡ common (ledger_of G).inquired (ids_of first_eight (table_of G)) + length (ledger_of G).gained
-  came_is = ap (λ (T : Tally). T.came) tally_is
-
   state_is : (session_of first_eight G).state ≡ G.numbers.state
   unfolding session_of
   state_is = refl
@@ -136,8 +104,29 @@ module _ (G : Given) (s : Sound G) where
   inquired-all : length (ledger_of G).inquired ≡ G.numbers.inquired
   inquired-all = ap length (given-inquired G s) ∙ inquired-long G (given_ledgered G s)
 
-  pub tally_unmet : eqb (tally_given G).unmet 0 ≡ is_nil (unmet (ledger_of G))
-  tally_unmet = ap (λ (n : ℕ). eqb n 0) unmet_is ∙ none-nil (unmet (ledger_of G))
+  -- in the terms of the ledger
+  tally_is : tally_given G
+      ≡ Some (tallied (count (concerned first_eight (table_of G) (ledger_of G)))
+      (common (ledger_of G).inquired (ids_of first_eight (table_of G)) + length (ledger_of G).gained)
+      (length (unmet (ledger_of G))))
+  unfolding tally_there is_whole session_of decode memory_of
+  tally_is =
+      told G.table (take (64 * (there G).numbers.demanded) G.records) G.marks (take (there G).numbers.inquired G.inquired) (there G).numbers (is_whole G)
+      (form_tie G (given-front G s) ∙ given_back G s)
+      ∙ ap said (given-all G s)
+      ∙ (λ i.
+      Some (tallied (sym (books-count first_eight (table_of G) (ledger_of G) (given-books G s) (given-good G s)) i)
+      (common (ledger_of G).inquired (ids_of first_eight (table_of G)) + sym met-gained i)
+      (left i)))
+    where
+      said : Given → Option Tally
+      said H =
+          let known = take (64 * H.numbers.demanded) H.records in
+          Some (counted H.table known H.marks (take H.numbers.inquired H.inquired) (length (hashes_of H.table)) (length (hashes_of known)))
+
+      left : length (hashes_of (take (64 * G.numbers.demanded) G.records)) - met_count (part 4096 (length (hashes_of (take (64 * G.numbers.demanded) G.records))) G.marks)
+          ≡ length (unmet (ledger_of G))
+      left = omega (arith, met-gained, unmet-count first_eight (table_of G) (ledger_of G) (given-books G s))
 
   -- after an element
   module _ (h : ℕ) (u : h ∈ unmet (ledger_of G)) where
@@ -156,35 +145,53 @@ module _ (G : Given) (s : Sound G) where
           unmet-count first_eight (table_of G) (gaining h (ledger_of G)) more,
         )
 
-  pub tally_last : (h : ℕ) → h ∈ unmet (ledger_of G) → eqb (tally_given G).unmet 1 ≡ is_nil (unmet (gaining h (ledger_of G)))
-  tally_last h u =
-      ap (λ (n : ℕ). eqb n 1) (unmet_is ∙ fewer h u)
-      ∙ one_less (length (unmet (gaining h (ledger_of G))))
-      ∙ none-nil (unmet (gaining h (ledger_of G)))
+  -- of the tally that a step has
+  module _ (T : Tally) (has : Some T ≡ tally_given G) where
+    is : T ≡ tallied (count (concerned first_eight (table_of G) (ledger_of G)))
+        (common (ledger_of G).inquired (ids_of first_eight (table_of G)) + length (ledger_of G).gained)
+        (length (unmet (ledger_of G)))
+    is = let e = has ∙ tally_is in cc
 
-  pub tally_came : (h : ℕ) → h ∈ unmet (ledger_of G) → G.numbers.state ≡ 2
-      → eqb ((tally_given G).came + 1) G.numbers.inquired ≡ all_came first_eight (table_of G) (gaining h (ledger_of G))
-  tally_came h u active =
-      ap₂ eqb sum (sym inquired-all) ∙ sym (came-all first_eight (table_of G) (gaining h (ledger_of G)) (more h u) ((given-form G s).demands_inquired there))
-    where
-      there : eqb (session_of first_eight G).state 2 ≡ true
-      there = eq-eqb (session_of first_eight G).state 2 (state_is ∙ active)
+    pub tally_concerned : T.concerned ≡ count (concerned first_eight (table_of G) (ledger_of G))
+    tally_concerned = ap (λ (T : Tally). T.concerned) is
 
-      sum : (tally_given G).came + 1
-          ≡ common (ledger_of G).inquired (ids_of first_eight (table_of G)) + length (insert h (ledger_of G).gained)
-      sum = omega (arith, came_is, longer h u)
+    unmet_is : T.unmet ≡ length (unmet (ledger_of G))
+    unmet_is = ap (λ (T : Tally). T.unmet) is
 
-  pub tally_few : ((tally_given G).concerned ≤ 4096) × ((tally_given G).came ≤ 8192)
-  tally_few = (
-    omega (arith, tally_concerned, (given-books G s).few),
-    omega (
-      arith,
-      came_is,
-      given-few G s,
-      inquired-all,
-      common-rest (ledger_of G).inquired (ids_of first_eight (table_of G)),
-      unmet-count first_eight (table_of G) (ledger_of G) (given-books G s),
-      ap length (given-demanded G s),
-      given-count G s,
-    ),
-  )
+    came_is : T.came ≡ common (ledger_of G).inquired (ids_of first_eight (table_of G)) + length (ledger_of G).gained
+    came_is = ap (λ (T : Tally). T.came) is
+
+    pub tally_unmet : eqb T.unmet 0 ≡ is_nil (unmet (ledger_of G))
+    tally_unmet = ap (λ (n : ℕ). eqb n 0) unmet_is ∙ none-nil (unmet (ledger_of G))
+
+    pub tally_last : (h : ℕ) → h ∈ unmet (ledger_of G) → eqb T.unmet 1 ≡ is_nil (unmet (gaining h (ledger_of G)))
+    tally_last h u =
+        ap (λ (n : ℕ). eqb n 1) (unmet_is ∙ fewer h u)
+        ∙ one_less (length (unmet (gaining h (ledger_of G))))
+        ∙ none-nil (unmet (gaining h (ledger_of G)))
+
+    pub tally_came : (h : ℕ) → h ∈ unmet (ledger_of G) → G.numbers.state ≡ 2
+        → eqb (T.came + 1) G.numbers.inquired ≡ all_came first_eight (table_of G) (gaining h (ledger_of G))
+    tally_came h u active =
+        ap₂ eqb sum (sym inquired-all) ∙ sym (came-all first_eight (table_of G) (gaining h (ledger_of G)) (more h u) ((given-form G s).demands_inquired there))
+      where
+        there : eqb (session_of first_eight G).state 2 ≡ true
+        there = eq-eqb (session_of first_eight G).state 2 (state_is ∙ active)
+
+        sum : T.came + 1 ≡ common (ledger_of G).inquired (ids_of first_eight (table_of G)) + length (insert h (ledger_of G).gained)
+        sum = omega (arith, came_is, longer h u)
+
+    pub tally_few : (T.concerned ≤ 4096) × (T.came ≤ 8192)
+    tally_few = (
+      omega (arith, tally_concerned, (given-books G s).few),
+      omega (
+        arith,
+        came_is,
+        given-few G s,
+        inquired-all,
+        common-rest (ledger_of G).inquired (ids_of first_eight (table_of G)),
+        unmet-count first_eight (table_of G) (ledger_of G) (given-books G s),
+        ap length (given-demanded G s),
+        given-count G s,
+      ),
+    )

@@ -4,7 +4,7 @@
 --   front_by         the table, the numbers, and in state 1 the counts
 --   tally_there      the ledger as far as it is there, with what the messages of a session count on
 --   judged_by        both
-use Rattle.std.specs.Prelude.{Bool, true, false, not, ◌&&◌, ◌||◌, cond, List, [], ◌∷◌, ℕ, ◌+◌, ◌-◌, ◌*◌, ◌/◌, min, eqb, ltb, leb, ℤ, length, take}
+use Rattle.std.specs.Prelude.{Bool, not, ◌&&◌, ◌||◌, cond, List, [], ◌∷◌, Option, Some, None, ℕ, ◌+◌, ◌-◌, ◌*◌, ◌/◌, ◌≤◌, min, eqb, ltb, leb, ℤ, length, take, count_by}
 use Rattle.bucket.specs.Lists.{elem, part}
 use Rattle.filter.specs.Calls.{in_range, are_counts}
 use Rattle.filter.specs.Lists.{select, ascending}
@@ -14,6 +14,7 @@ use Rattle.ledger.specs.declared.numbers.Numbers.{Numbers}
 use Rattle.ledger.specs.Grid.{EXPECTING, EXPECTING_LAST, ACTIVE, PASSIVE, is_state}
 use Rattle.ledger.specs.Memory.{is_offered, is_served, is_met}
 use Rattle.ledger.specs.Calls.{numbered, counts_nothing}
+use Rattle.form.specs.declared.tallying.Counts.{Counts}
 use Rattle.form.specs.declared.tallying.Tally.{Tally}
 
 -- ---- tests of marks
@@ -26,9 +27,8 @@ table_mark m = ltb m 8 && not (is_served m && not (is_offered m))
 unfoldable pub record_mark : ℕ → Bool
 record_mark m = ltb m 16 && (not (is_served m && not (is_offered m)) && (is_met m || eqb m 0))
 
-unfoldable pub met_count : List ℕ → ℕ
-met_count [] = 0
-met_count (m ∷ ms) = cond (is_met m) 1 0 + met_count ms
+abbrev pub met_count : List ℕ → ℕ
+met_count = count_by is_met
 
 abbrev pub is_zero : ℕ → Bool
 is_zero m = eqb m 0
@@ -43,37 +43,49 @@ common l m = length (select (λ x. elem x m) l)
 abbrev pub idle : ℕ → ℕ → Bool
 idle state first = eqb state EXPECTING || (eqb state EXPECTING_LAST || (eqb state PASSIVE && eqb first 1))
 
--- both, a and b: how many IDs of the demanded are the table's, of the inquired the table's, and of the demanded inquired
-unfoldable pub form_by : (state first went nt n k both a b met : ℕ) → (zero whole : Bool) → Bool
-form_by state first went nt n k both a b met zero whole =
-    eqb both 0
-    && (leb (nt + n + k) (4096 + a + b)
-    && (implies (idle state first) zero && implies whole (implies (eqb state ACTIVE) (eqb b n && same (eqb went 1) (eqb (a + met) k)))))
-
-abbrev pub tallied : Bool → ℕ → ℕ → ℕ → Tally
-tallied good concerned came unmet = record { good = good; concerned = concerned; came = came; unmet = unmet }
-
--- of the table, the bytes of the demanded hashes, marks and the IDs inquired; whole: these are all that the ledger counts
-unfoldable pub good_tally : Numbers → Bool → List ℕ → List ℕ → List ℕ → List ℕ → Bool
-good_tally N whole table known M I =
+-- what is counted of the bytes of the table and of the demanded hashes, the marks of each, and the IDs inquired
+abbrev pub counts_of : (table known M F I : List ℕ) → Counts
+counts_of table known M F I =
     let t = ids_of first_eight table in
     let ks = ids_of first_eight known in
-    let fs = part 4096 (length ks) M in
+    record {
+      elements = length t;
+      demanded = length ks;
+      inquired = length I;
+      both = common ks t;
+      came = common I t;
+      wanted = common ks I;
+      met = met_count F;
+      unmarked = all is_zero M;
+    }
+
+unfoldable pub form_by : Numbers → Counts → Bool → Bool
+form_by N c whole =
+    eqb c.both 0
+    && (leb (c.elements + c.demanded + c.inquired) (4096 + c.came + c.wanted)
+    && (implies (idle N.state N.first) c.unmarked
+    && implies whole (implies (eqb N.state ACTIVE) (eqb c.wanted c.demanded && same (eqb N.done 1) (eqb (c.came + c.met) c.inquired)))))
+
+-- what is counted is little, so it can be added up
+pub record Few (c : Counts) : Type 0 where
+  pub elements : c.elements ≤ 4096
+  pub demanded : c.demanded ≤ 4096
+  pub inquired : c.inquired ≤ 4096
+  pub came : c.came ≤ c.inquired
+  pub wanted : c.wanted ≤ c.demanded
+  pub met : c.met ≤ c.demanded
+
+abbrev pub tally_by : Counts → Tally
+tally_by c = record { concerned = c.elements + c.demanded + c.inquired - c.came - c.wanted; came = c.came + c.met; unmet = c.demanded - c.met }
+
+-- whole: these are all that the ledger counts
+unfoldable pub good_tally : Numbers → Bool → (table known M F I : List ℕ) → Bool
+good_tally N whole table known M F I =
     is_table first_eight known
-    && (ascending I
-    && (all table_mark (take (length t) M)
-    && (all record_mark fs
-    && form_by N.state N.first N.done (length t) (length ks) (length I) (common ks t) (common I t) (common ks I)
-    (met_count fs) (all is_zero (take (length t) M)) whole)))
+    && (ascending I && (all table_mark M && (all record_mark F && form_by N (counts_of table known M F I) whole)))
 
-unfoldable pub tally_of : Numbers → Bool → List ℕ → List ℕ → List ℕ → List ℕ → Tally
-tally_of N whole table known M I =
-    let t = ids_of first_eight table in
-    let ks = ids_of first_eight known in
-    let fs = part 4096 (length ks) M in
-    cond (good_tally N whole table known M I)
-    (tallied true (length t + length ks + length I - common I t - common ks I) (common I t + met_count fs) (length ks - met_count fs))
-    (tallied false 0 0 0)
+unfoldable pub tally_of : Numbers → Bool → (table known M F I : List ℕ) → Option Tally
+tally_of N whole table known M F I = cond (good_tally N whole table known M F I) (Some (tally_by (counts_of table known M F I))) None
 
 -- the numbers of what is there of a ledger, by the lengths of its slices
 abbrev pub cut : Numbers → (records marks inquired : ℕ) → Numbers
@@ -81,10 +93,12 @@ cut N records marks inquired =
     numbered N.state N.first N.size N.salt N.width N.swaps N.done
     (min N.demanded (min (records / 64) (marks - 4096))) (min N.inquired inquired)
 
-unfoldable pub tally_there : Numbers → List ℕ → List ℕ → List ℕ → List ℕ → Tally
+unfoldable pub tally_there : Numbers → (table R M I : List ℕ) → Option Tally
 tally_there N table R M I =
     let P = cut N (length R) (length M) (length I) in
-    tally_of P (eqb P.demanded N.demanded && eqb P.inquired N.inquired) table (take (64 * P.demanded) R) M (take P.inquired I)
+    let known = take (64 * P.demanded) R in
+    tally_of P (eqb P.demanded N.demanded && eqb P.inquired N.inquired) table known
+    (take (length (ids_of first_eight table)) M) (part 4096 (length (ids_of first_eight known)) M) (take P.inquired I)
 
 -- ---- the table, the numbers and the counts
 
@@ -100,5 +114,5 @@ unfoldable pub front_by : Numbers → List ℕ → List ℤ → Bool
 front_by N table counts =
     is_table first_eight table && (numbers_fit N && implies (eqb N.state EXPECTING_LAST) (are_counts 2520 counts))
 
-unfoldable pub judged_by : Numbers → List ℕ → List ℕ → List ℕ → List ℕ → List ℤ → Tally
-judged_by N table R M I counts = cond (front_by N table counts) (tally_there N table R M I) (tallied false 0 0 0)
+unfoldable pub judged_by : Numbers → List ℕ → List ℕ → List ℕ → List ℕ → List ℤ → Option Tally
+judged_by N table R M I counts = cond (front_by N table counts) (tally_there N table R M I) None

@@ -1,33 +1,63 @@
 // The states by their numbers, and the grid: a constant of states against messages.
-ghost use Rattle.std.specs.Prelude.{◌≡◌};
-ghost use Rattle.ledger.specs.Grid.{is_state, is_ended, row_of, entry};
+ghost use Rattle.std.specs.Prelude.{◌≡◌, true, is_ok};
+ghost use Rattle.ledger.specs.Grid.{is_state, is_ended, entry};
 ghost use Rattle.form.specs.Answers.{admits_slice, is_placed};
+ghost use Rattle.form.specs.Grid.{column, IsStateOf};
 
 use ledger::numbers::{
     ABORTED, ACTIVE, EXPECTING, EXPECTING_LAST, FINISHED, Numbers, PASSIVE, WAITING,
 };
 
-// The columns of the grid.
-pub const IBF: usize = 0;
+// The states, in the order of the grid's rows.
+#[derive(Clone, Copy, PartialEq, Eq)]
+pub enum State {
+    Expecting,
+    ExpectingLast,
+    Active,
+    Passive,
+    Waiting,
+    Finished,
+    Aborted,
+}
 
-pub const LAST: usize = 1;
+// A number that is no state's.
+#[derive(Clone, Copy, PartialEq, Eq)]
+pub struct NoState;
 
-pub const INQUIRY: usize = 2;
+impl TryFrom<u32> for State {
+    type Error = NoState;
 
-pub const OFFER: usize = 3;
+    ghost try_from_gives = { IsStateOf };
 
-pub const DEMAND: usize = 4;
+    #[tactic(auto, unfolding(bucket::specs::Lists::elem))]
+    fn try_from(number: u32) -> Result<State, NoState> {
+        match number {
+            EXPECTING => Ok(State::Expecting),
+            EXPECTING_LAST => Ok(State::ExpectingLast),
+            ACTIVE => Ok(State::Active),
+            PASSIVE => Ok(State::Passive),
+            WAITING => Ok(State::Waiting),
+            FINISHED => Ok(State::Finished),
+            ABORTED => Ok(State::Aborted),
+            _ => Err(NoState),
+        }
+    }
+}
 
-pub const ELEMENT: usize = 5;
-
-pub const DONE: usize = 6;
-
-pub const COLUMNS: usize = 7;
-
-const ROWS: usize = 7;
+// The kinds of messages, in the order of the grid's columns.
+#[derive(Clone, Copy, PartialEq, Eq)]
+pub enum Kind {
+    Ibf,
+    IbfLast,
+    Inquiry,
+    Offer,
+    Demand,
+    Element,
+    Done,
+}
 
 // One row a state: IBF, IBF LAST, INQUIRY, OFFER, DEMAND, ELEMENT, DONE.
-const GRID: [[bool; COLUMNS]; ROWS] = [
+const GRID: [[bool; 7]; 7] = [
     [true, true, false, false, false, false, false], // 0 Expecting IBF
     [true, true, false, false, false, false, false], // 1 Expecting IBF Last
     [false, false, false, true, true, true, true], // 2 Active Decoding
@@ -37,63 +67,44 @@ const GRID: [[bool; COLUMNS]; ROWS] = [
     [false, false, false, false, false, false, false], // 7 Aborted
 ];
 
-// The row of a state, behind all rows where the number is no state's.
-fn row_of(state: u32) -> usize
-    ensures { result ≡ row_of state }
-{
-    match state {
-        EXPECTING => 0,
-        EXPECTING_LAST => 1,
-        ACTIVE => 2,
-        PASSIVE => 3,
-        WAITING => 4,
-        FINISHED => 5,
-        ABORTED => 6,
-        _ => ROWS,
-    }
-}
-
 pub fn is_state(state: u32) -> bool
     ensures { result ≡ is_state state }
 {
-    row_of(state) < ROWS
+    State::try_from(state).is_ok()
 }
 
 pub fn is_ended(state: u32) -> bool
     ensures { result ≡ is_ended state }
 {
-    (state == FINISHED) | (state == ABORTED)
+    state == FINISHED || state == ABORTED
 }
 
-// Whether a message of a kind may come in a state. Outside the grid nothing may.
-pub fn admits(state: u32, kind: usize) -> bool
-    ensures { result ≡ entry state kind }
+// Whether a message of a kind may come in a state. Where the number is no state's nothing may.
+pub fn admits(state: u32, kind: Kind) -> bool
+    ensures { result ≡ entry state (column kind) }
 {
-    let row = row_of(state);
-    if ROWS <= row {
+    let Ok(row) = State::try_from(state) else {
         return false;
-    }
-    if COLUMNS <= kind {
-        return false;
-    }
-    let entries = GRID[row];
-    entries[kind]
+    };
+    GRID[row as usize][kind as usize]
 }
 
 // The same for a slice: in Passive Decoding only as first message since entry.
-pub fn admits_slice(numbers: Numbers, kind: usize) -> bool
-    ensures { result ≡ admits_slice numbers kind }
+#[tactic(auto, unfolding(crate::specs::Answers::admits_slice))]
+pub fn admits_slice(numbers: Numbers, kind: Kind) -> bool
+    ensures { result ≡ admits_slice numbers (column kind) }
 {
-    admits(numbers.state, kind) & !((numbers.state == PASSIVE) & !(numbers.first == 1))
+    admits(numbers.state, kind) && (numbers.state != PASSIVE || numbers.first == 1)
 }
 
 // Whether a slice comes in offset order without a gap, with one size, salt and width.
+#[tactic(auto, unfolding(crate::specs::Answers::is_placed))]
 pub fn is_placed(numbers: Numbers, size: u32, offset: u32, salt: u32, width: u32) -> bool
     ensures { result ≡ is_placed numbers size offset salt width }
 {
     if numbers.state == EXPECTING_LAST {
-        return (offset == 2520)
-            & ((size == numbers.size) & ((salt == numbers.salt) & (width == numbers.width)));
+        offset == 2520 && size == numbers.size && salt == numbers.salt && width == numbers.width
+    } else {
+        offset == 0
     }
-    offset == 0
 }

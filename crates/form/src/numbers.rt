@@ -17,7 +17,7 @@ pub fn refused(refusal: u32, numbers: Numbers) -> Answer
     ensures { result ≡ answered refusal 0 0 numbers }
 {
     Answer {
-        refusal: refusal,
+        refusal,
         sent: 0,
         due: 0,
         next: numbers,
@@ -30,57 +30,63 @@ pub fn answered(sent: usize, due: usize, next: Numbers) -> Answer
 {
     Answer {
         refusal: 0,
-        sent: sent,
-        due: due,
-        next: next,
+        sent,
+        due,
+        next,
     }
 }
 
-fn in_state(mut numbers: Numbers, state: u32) -> Numbers
+fn in_state(numbers: Numbers, state: u32) -> Numbers
     ensures { result ≡ in_state state numbers }
 {
-    numbers.state = state;
-    numbers
+    Numbers { state, ..numbers }
 }
 
 // A message that is no slice has been acted on.
 pub fn changed(
-    mut next: Numbers,
+    numbers: Numbers,
     state: u32,
     done: u32,
     demanded: u32,
     sent: usize,
     due: usize,
 ) -> Answer
-    ensures { result ≡ changed next state done demanded sent due }
+    ensures { result ≡ changed numbers state done demanded sent due }
 {
-    next.state = state;
-    next.first = 0;
-    next.done = done;
-    next.demanded = demanded;
+    let next = Numbers {
+        state,
+        first: 0,
+        done,
+        demanded,
+        ..numbers
+    };
     answered(sent, due, next)
 }
 
-pub fn sliced(mut numbers: Numbers, size: u32, salt: u32, width: u32) -> Numbers
+pub fn sliced(numbers: Numbers, size: u32, salt: u32, width: u32) -> Numbers
     ensures { result ≡ sliced_numbers numbers size salt width }
 {
-    numbers.state = EXPECTING_LAST;
-    numbers.first = 0;
-    numbers.size = size;
-    numbers.salt = salt;
-    numbers.width = width;
-    numbers
+    Numbers {
+        state: EXPECTING_LAST,
+        first: 0,
+        size,
+        salt,
+        width,
+        ..numbers
+    }
 }
 
-pub fn opened(mut numbers: Numbers, size: u32, salt: u32, done: u32, inquired: u32) -> Numbers
+pub fn opened(numbers: Numbers, size: u32, salt: u32, done: u32, inquired: u32) -> Numbers
     ensures { result ≡ opened_numbers numbers size salt done inquired }
 {
-    numbers.state = ACTIVE;
-    numbers.first = 0;
-    numbers.size = size;
-    numbers.salt = salt;
-    numbers.width = 0;
-    numbers.done = done;
-    numbers.inquired = inquired;
-    numbers
+    Numbers {
+        state: ACTIVE,
+        first: 0,
+        size,
+        salt,
+        width: 0,
+        done,
+        inquired,
+        ..numbers
+    }
 }

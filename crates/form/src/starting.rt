@@ -1,6 +1,5 @@
 // The start of each side.
-ghost use Rattle.std.specs.Prelude.{◌≡◌, [], ◌≤◌, length, replicate};
-ghost use Rattle.bucket.specs.Lists.{over};
+ghost use Rattle.std.specs.Prelude.{◌≡◌, []};
 ghost use Rattle.filter.specs.Table.{first_eight};
 ghost use Rattle.ledger.specs.Calls.{answered, no_session, numbered, starting, start_receiver, start_sender};
 
@@ -16,7 +15,7 @@ pub fn start_receiver(table: &[u8], marks: &mut [u8]) -> Answer
     if marks.len() < 8192 {
         return no_session(ROOM);
     }
-    clear(marks, filter::table::count(table));
+    marks[..filter::table::count(table)].fill(0);
     crate::numbers::answered(0, 0, fresh(EXPECTING, 0, 37, 0))
 }
 
@@ -31,10 +30,10 @@ pub fn start_sender(table: &[u8], size: u32, salt: u32, marks: &mut [u8], out: &
     if !filter::forms::in_range(size, salt) {
         return no_session(RANGE);
     }
-    if (marks.len() < 8192) | (out.len() < 295008) {
+    if marks.len() < 8192 || out.len() < 295008 {
         return no_session(ROOM);
     }
-    clear(marks, filter::table::count(table));
+    marks[..filter::table::count(table)].fill(0);
     let sent = crate::sending::send_filter(table, size, salt, out);
     crate::numbers::answered(sent, 0, fresh(PASSIVE, 1, size, salt))
 }
@@ -51,26 +50,14 @@ fn fresh(state: u32, first: u32, size: u32, salt: u32) -> Numbers
     ensures { result ≡ numbered state first size salt 0 0 0 0 0 }
 {
     Numbers {
-        state: state,
-        first: first,
-        size: size,
-        salt: salt,
+        state,
+        first,
+        size,
+        salt,
         width: 0,
         swaps: 0,
         done: 0,
         demanded: 0,
         inquired: 0,
-    }
-}
-
-// n zero bytes from the start.
-fn clear(s: &mut [u8], n: usize)
-    requires { n ≤ length s.old }
-    ensures { s.new ≡ over 0 (replicate n 0) s.old }
-{
-    let mut j: usize = 0;
-    while j < n {
-        s[j] = 0;
-        j += 1;
     }
 }

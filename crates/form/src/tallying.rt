@@ -1,28 +1,63 @@
 // The ledger's form, judged by counting: three merges of ascending IDs say everything that is shared.
-ghost use Rattle.std.specs.Prelude.{◌≡◌, true, false, [], ◌-◌, ◌*◌, ◌≤◌, min, length, take};
+ghost use Rattle.std.specs.Prelude.{◌≡◌, true, [], ◌-◌, ◌*◌, ◌≤◌, length, take, is_some};
 ghost use Rattle.bucket.specs.Columns.{columns};
 ghost use Rattle.filter.specs.Lists.{ascending};
-ghost use Rattle.filter.specs.Table.{first_eight, ids_of, is_table};
+ghost use Rattle.filter.specs.Table.{first_eight, hashes_of, is_table};
 ghost use Rattle.ledger.specs.Calls.{given, good_form};
-ghost use Rattle.form.specs.Tallies.{common, idle, form_by, tallied, tally_of, cut, tally_there, judged_by};
+ghost use Rattle.form.specs.Tallies.{idle, counts_of, form_by, tally_by, tally_of, cut, tally_there, judged_by, Few};
 
+use crate::judging::{common, ids_into, is_record_mark, is_table_mark};
 use ledger::numbers::{ACTIVE, EXPECTING, EXPECTING_LAST, Numbers, PASSIVE};
 
-// Whether the ledger has its form; how many IDs are held or wanted, how many inquired ones are held, and how many demands are unmet.
+// What the messages of a session count on: how many IDs are held or wanted, how many inquired ones are held, and how many demands are unmet.
 #[derive(Clone, Copy)]
 pub struct Tally {
-    pub good: bool,
     pub concerned: usize,
     pub came: usize,
     pub unmet: usize,
 }
 
-// How many IDs of the demanded are the table's, of the inquired the table's, and of the demanded inquired.
+// What a ledger counts, as far as it is there.
 #[derive(Clone, Copy)]
-pub(crate) struct Shared {
-    pub(crate) both: usize,
-    pub(crate) table: usize,
+pub(crate) struct Counts {
+    pub(crate) elements: usize,
     pub(crate) demanded: usize,
+    pub(crate) inquired: usize,
+    // how many IDs of the demanded are the table's, of the inquired the table's, and of the demanded inquired
+    pub(crate) both: usize,
+    pub(crate) came: usize,
+    pub(crate) wanted: usize,
+    pub(crate) met: usize,
+    // whether no element of the table has a mark
+    pub(crate) unmarked: bool,
+}
+
+impl Counts {
+    // The clauses of the form, on numbers alone.
+    #[tactic(auto, unfolding(crate::specs::Tallies::form_by))]
+    fn are_in_form(self, numbers: Numbers, whole: bool) -> bool
+        requires { Few self }
+        ensures { result ≡ form_by numbers self whole }
+    {
+        self.both == 0
+            && self.elements + self.demanded + self.inquired <= 4096 + self.came + self.wanted
+            && (self.unmarked || !is_idle(numbers.state, numbers.first))
+            && (!whole
+                || numbers.state != ACTIVE
+                || (self.wanted == self.demanded
+                    && (numbers.done == 1) == (self.came + self.met == self.inquired)))
+    }
+
+    fn tally(self) -> Tally
+        requires { Few self }
+        ensures { result ≡ tally_by self }
+    {
+        Tally {
+            concerned: self.elements + self.demanded + self.inquired - self.came - self.wanted,
+            came: self.came + self.met,
+            unmet: self.demanded - self.met,
+        }
+    }
 }
 
 // Refusal 1's test of all that a step is given, and of a good form what the messages count on. The slices may have any length.
@@ -33,12 +68,12 @@ pub fn judge(
     marks: &[u8],
     inquired: &[u64],
     counts: &[i64],
-) -> Tally
-    ensures { (result.good ≡ good_form first_eight (given numbers table.now records.now marks.now inquired.now (columns [] [] counts.now) [] [] [] [] []))
+) -> Option<Tally>
+    ensures { (is_some result ≡ good_form first_eight (given numbers table.now records.now marks.now inquired.now (columns [] [] counts.now) [] [] [] [] []))
         × (result ≡ judged_by numbers table.now records.now marks.now inquired.now counts.now) }
 {
     if !crate::fronts::is_good_front(numbers, table, counts) {
-        return no_tally();
+        return None;
     }
     judge_ledger(numbers, table, records, marks, inquired)
 }
@@ -50,158 +85,98 @@ fn judge_ledger(
     records: &[u8],
     marks: &[u8],
     inquired: &[u64],
-) -> Tally
+) -> Option<Tally>
     requires { (is_table first_eight table.now ≡ true) × (numbers.demanded ≤ 4096) × (numbers.inquired ≤ 4096) }
     ensures { result ≡ tally_there numbers table.now records.now marks.now inquired.now }
 {
     let part = there(numbers, records.len(), marks.len(), inquired.len());
     let whole = (part.demanded == numbers.demanded) & (part.inquired == numbers.inquired);
-    judge_part(part, whole, table, records, marks, inquired)
+    let n = part.demanded as usize;
+    let k = part.inquired as usize;
+    let marked = filter::table::count(table).min(marks.len());
+    let (_, flags) = marks.split_at(marks.len().min(4096));
+    judge_part(
+        part,
+        whole,
+        table,
+        &records[..64 * n],
+        &marks[..marked],
+        &flags[..n],
+        &inquired[..k],
+    )
 }
 
 // The numbers with as much counted as is there; a demanded hash is there where its 64 bytes and its mark are.
 fn there(numbers: Numbers, records: usize, marks: usize, inquired: usize) -> Numbers
     ensures { result ≡ cut numbers records marks inquired }
 {
-    let flags = marks - least(marks, 4096);
-    let hashes = least(records / 64, flags);
-    let n = least(numbers.demanded as usize, hashes);
-    let k = least(numbers.inquired as usize, inquired);
+    let hashes = (records / 64).min(marks.saturating_sub(4096));
+    let n = (numbers.demanded as usize).min(hashes);
+    let k = (numbers.inquired as usize).min(inquired);
     Numbers {
-        state: numbers.state,
-        first: numbers.first,
-        size: numbers.size,
-        salt: numbers.salt,
-        width: numbers.width,
-        swaps: numbers.swaps,
-        done: numbers.done,
         demanded: n as u32,
         inquired: k as u32,
+        ..numbers
     }
 }
 
-fn least(a: usize, b: usize) -> usize
-    ensures { result ≡ min a b }
-{
-    if a <= b {
-        return a;
-    }
-    b
-}
-
-// Everything that these numbers count is there. Of a part of a ledger what only the whole can show is not asked.
+// The hashes demanded that are there, the marks of the table's elements and of these hashes, and the IDs inquired. Of a part of a ledger what only the
+// whole can show is not asked.
 fn judge_part(
     numbers: Numbers,
     whole: bool,
     table: &[u8],
-    records: &[u8],
+    known: &[u8],
     marks: &[u8],
+    flags: &[u8],
     inquired: &[u64],
-) -> Tally
-    requires { (is_table first_eight table.now ≡ true) × (numbers.demanded ≤ 4096) × (numbers.inquired ≤ 4096)
-        × (64 * numbers.demanded ≤ length records.now) × (numbers.demanded ≤ length marks.now - 4096) × (numbers.inquired ≤ length inquired.now) }
-    ensures { result ≡ tally_of numbers whole table.now (take (64 * numbers.demanded) records.now) marks.now (take numbers.inquired inquired.now) }
+) -> Option<Tally>
+    requires { (is_table first_eight table.now ≡ true) × (length inquired.now ≤ 4096) × (length flags.now ≡ length (hashes_of known.now)) }
+    ensures { result ≡ tally_of numbers whole table.now known.now marks.now flags.now inquired.now }
 {
-    let n = numbers.demanded as usize;
-    let k = numbers.inquired as usize;
-    let e = 64 * n;
-    if !filter::table::is_table(&records[..e]) {
-        return no_tally();
+    if !filter::table::is_table(known) {
+        return None;
     }
-    if !crate::judging::ids_ascend(inquired, k) {
-        return no_tally();
+    if !inquired.is_sorted_by(|a, b| a < b) {
+        return None;
     }
-    let nt = filter::table::count(table);
-    let marked = least(nt, marks.len());
-    if !crate::judging::table_marks_fit(marks, marked) {
-        return no_tally();
+    if !marks.iter().all(|m| is_table_mark(*m)) {
+        return None;
     }
-    if !crate::judging::record_marks_fit(marks, n) {
-        return no_tally();
+    if !flags.iter().all(|m| is_record_mark(*m)) {
+        return None;
     }
-    let met = crate::judging::met_count(marks, n);
-    let zero = crate::judging::marks_are_zero(marks, marked);
-    let s = merge_ids(table, &records[..e], inquired, k);
-    if !is_in_form(numbers, nt, n, k, s, met, zero, whole) {
-        return no_tally();
+    let counts = counted(table, known, marks, flags, inquired);
+    if !counts.are_in_form(numbers, whole) {
+        return None;
     }
-    Tally {
-        good: true,
-        concerned: nt + n + k - s.table - s.demanded,
-        came: s.table + met,
-        unmet: n - met,
-    }
-}
-
-fn no_tally() -> Tally
-    ensures { result ≡ tallied false 0 0 0 }
-{
-    Tally {
-        good: false,
-        concerned: 0,
-        came: 0,
-        unmet: 0,
-    }
+    Some(counts.tally())
 }
 
 // The IDs of both sides are gathered once, and merged.
-fn merge_ids(table: &[u8], known: &[u8], inquired: &[u64], k: usize) -> Shared
-    requires { (is_table first_eight table.now ≡ true) × (is_table first_eight known.now ≡ true) × (k ≤ length inquired.now) × (ascending (take k inquired.now) ≡ true) }
-    ensures { (result.both ≡ common (ids_of first_eight known.now) (ids_of first_eight table.now))
-        × (result.table ≡ common (take k inquired.now) (ids_of first_eight table.now))
-        × (result.demanded ≡ common (ids_of first_eight known.now) (take k inquired.now)) }
+fn counted(table: &[u8], known: &[u8], marks: &[u8], flags: &[u8], inquired: &[u64]) -> Counts
+    requires { (is_table first_eight table.now ≡ true) × (is_table first_eight known.now ≡ true) × (ascending inquired.now ≡ true) }
+    ensures { result ≡ counts_of table.now known.now marks.now flags.now inquired.now }
 {
-    let nt = filter::table::count(table);
-    let n = filter::table::count(known);
     let mut ts = [0u64; 4096];
     let mut ks = [0u64; 4096];
-    crate::judging::ids_into(table, &mut ts);
-    crate::judging::ids_into(known, &mut ks);
-    Shared {
-        both: crate::judging::common(&ks, n, &ts, nt),
-        table: crate::judging::common(inquired, k, &ts, nt),
-        demanded: crate::judging::common(&ks, n, inquired, k),
+    let ts = ids_into(table, &mut ts);
+    let ks = ids_into(known, &mut ks);
+    Counts {
+        elements: ts.len(),
+        demanded: ks.len(),
+        inquired: inquired.len(),
+        both: common(ks, ts),
+        came: common(inquired, ts),
+        wanted: common(ks, inquired),
+        met: flags.iter().filter(|m| crate::marks::is_met(**m)).count(),
+        unmarked: marks.iter().all(|m| *m == 0),
     }
-}
-
-// The clauses of the form, on numbers alone.
-fn is_in_form(
-    numbers: Numbers,
-    nt: usize,
-    n: usize,
-    k: usize,
-    s: Shared,
-    met: usize,
-    zero: bool,
-    whole: bool,
-) -> bool
-    requires { (nt ≤ 4096) × (n ≤ 4096) × (k ≤ 4096) × (s.table ≤ 4096) × (s.demanded ≤ 4096) × (met ≤ 4096) }
-    ensures { result ≡ form_by numbers.state numbers.first numbers.done nt n k s.both s.table s.demanded met zero whole }
-{
-    if s.both != 0 {
-        return false;
-    }
-    if 4096 + s.table + s.demanded < nt + n + k {
-        return false;
-    }
-    if is_idle(numbers.state, numbers.first) & !zero {
-        return false;
-    }
-    if !whole {
-        return true;
-    }
-    if numbers.state == ACTIVE {
-        if s.demanded != n {
-            return false;
-        }
-        return (numbers.done == 1) == (s.table + met == k);
-    }
-    true
 }
 
 // In 0 and 1, and in 3 until its first message: nothing is counted, and no mark is set.
 pub(crate) fn is_idle(state: u32, first: u32) -> bool
     ensures { result ≡ idle state first }
 {
-    (state == EXPECTING) | ((state == EXPECTING_LAST) | ((state == PASSIVE) & (first == 1)))
+    state == EXPECTING || state == EXPECTING_LAST || (state == PASSIVE && first == 1)
 }
