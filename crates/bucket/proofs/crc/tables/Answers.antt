@@ -21,5 +21,5 @@ loop-i-preserved c = let at = c.loop-i in
 pub returns : goal.returns
 unfolding crc_tables
 returns c = let at = c.loop-i in
-    let e : at.i ≡ 2048 = omega (arith, at.invariant.within, c.loop-i-test.false) in
-    filled-all entry 2048 at.tab (subst (λ (n : ℕ). Filled entry 2048 n at.tab) e at.invariant)
+    let all : at.i ≡ 2048 = omega arith in
+    filled-all entry 2048 at.tab (rw all at at.invariant)
