@@ -11,7 +11,6 @@ pub mod packing;
 pub mod places;
 pub mod purity;
 pub mod salting;
-mod taken;
 
 ghost use Rattle.std.specs.Prelude.{◌≡◌, min};
 

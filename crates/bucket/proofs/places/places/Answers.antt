@@ -1,4 +1,4 @@
-use mathlib.Core.Path.{sym, ap, ◌∙◌}
+use mathlib.Core.Path.{◌≡◌, sym, ap, ◌∙◌}
 use Prim.Native.Nat.{min}
 use native.Mathlib.Omega.{arith}
 use borrow.Author.Rules.{rules}
@@ -10,9 +10,9 @@ use Rattle.bucket.proofs.PlaceLaws.{places-back}
 use Rattle.bucket.proofs.places.places.Goals as goal
 use Rattle.bucket.proofs.places.places.Goals.{then-j-n+else-n-most, else-j-n+then-taken-j}
 
-pub returns-then-least-eq0 : goal.returns-then-least-eq0
+pub returns-then-most-eq0 : goal.returns-then-most-eq0
 unfolding pad
-returns-then-least-eq0 c = let args = c.args in
+returns-then-most-eq0 c = let args = c.args in
     ap (pad 4) (places-back (next_by args.tab.now) (min 4 args.k) args.size args.d 4 0 (omega arith))
 
 pub draws-init : goal.draws-init
@@ -47,7 +47,7 @@ draws-preserved c = let at = c.taken in
 
 pub returns-then-i-eq64 : goal.returns-then-i-eq64
 returns-then-i-eq64 c = let s = c.draws.invariant in
-    let most = c.least-most.ensures in
+    let most : c.min-most.result ≡ min 4 c.args.k = omega arith in
     c.fill.ensures ∙ rw (s.search.room, most) (ap (pad 4) (drawing_last s c.if-i-eq64.true))
 
 pub returns-then-n-most : goal.returns-then-n-most
