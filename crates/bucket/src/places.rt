@@ -23,30 +23,24 @@ pub fn places(tab: &[u32; 2048], d: u32, size: u32, k: usize) -> [u32; 4]
     }
     let mut n: usize = 0;
     let mut e = d;
-    let mut i: u32 = 0;
-    'draws: loop {
-        if i == 64 {
-            fill(&mut taken, n, size, most);
-            break;
-        }
+    'draws: for i in 0..64 {
         let c = e % size;
-        let mut j: usize = 0;
-        'taken: loop {
-            if j == n {
-                taken[n] = c;
-                n += 1;
-                if n == most {
-                    break 'draws;
+        'taken: {
+            for p in &taken[..n] {
+                if *p == c {
+                    break 'taken;
                 }
-                break;
             }
-            if taken[j] == c {
-                break;
+            taken[n] = c;
+            n += 1;
+            if n == most {
+                break 'draws;
             }
-            j += 1;
         }
         e = crate::crc::next_draw(tab, e, i);
-        i += 1;
+    }
+    if n < most {
+        fill(&mut taken, n, size, most);
     }
     taken
 }
