@@ -1,7 +1,7 @@
 -- Counts as numbers: what the code's signed tests and casts say of `number`, `has_bits` and `fits_in`. Assumes nothing.
 use mathlib.Core.Path.{◌≡◌, refl, sym, ap, ◌∙◌}
 use mathlib.Core.Bool.{Bool, true, false, ◌&&◌, true≢false}
-use mathlib.Core.List.{List, map}
+use mathlib.Core.List.{List, [], ◌∷◌, map}
 use Prim.Native.Nat.{ℕ, ◌+◌, ◌^◌, ◌≤◌, ◌<◌}
 use native.Mathlib.Numerals.{add-one}
 use native.Mathlib.Omega.{arith}
@@ -15,6 +15,7 @@ use mir.Val.{Fits, SFits, to_z, of_z, hbits}
 use mir.ValLaws.{to_z-of_z, to_z_pos}
 use borrow.Author.Rules.{sfits_of}
 use borrow.Author.Tests.{ltb-true}
+use Rattle.std.specs.List.{list_all}
 use Rattle.bucket.specs.Digits.{unpacked}
 use Rattle.bucket.specs.Packing.{number, has_bits, fits_in}
 use Rattle.bucket.proofs.PackedLaws.{unpacked-length}
@@ -81,28 +82,8 @@ pub number-below : (w : ℕ) (z : ℤ) → has_bits w z ≡ true → number z < 
 number-below w (pos n) h = ltb-true n (2 ^ w) h
 number-below w (negsuc n) h = absurd (true≢false (sym h))
 
--- the state of the test: those before i have been found to fit
-pub record Fitting (w : ℕ) (cs : List ℤ) (i : ℕ) : Type 0 where
-  pub within : i ≤ length cs
-  pub rest : fits_in w (drop i cs) ≡ fits_in w cs
-
-pub fitting_start : (w : ℕ) (cs : List ℤ) → Fitting w cs 0
-fitting_start w cs = record { within = omega arith; rest = refl }
-
-module _ {w : ℕ} {cs : List ℤ} {i : ℕ} (k : Fitting w cs i) where
-  fitting_more : i < length cs → has_bits w (get_or cs i (pos 0)) && fits_in w (drop (i + 1) cs) ≡ fits_in w cs
-  unfolding fits_in
-  fitting_more l =
-      ap (λ (n : ℕ). has_bits w (get_or cs i (pos 0)) && fits_in w (drop n cs)) (add-one i)
-      ∙ sym (ap (fits_in w) (drop-cons cs i (pos 0) l))
-      ∙ k.rest
-
-  pub fitting_next : i < length cs → has_bits w (get_or cs i (pos 0)) ≡ true → Fitting w cs (i + 1)
-  fitting_next l e = record { within = omega arith; rest = sym (ap (λ (t : Bool). t && fits_in w (drop (i + 1) cs)) e) ∙ fitting_more l }
-
-  pub fitting_not : i < length cs → has_bits w (get_or cs i (pos 0)) ≡ false → fits_in w cs ≡ false
-  fitting_not l e = sym (fitting_more l) ∙ ap (λ (t : Bool). t && fits_in w (drop (i + 1) cs)) e
-
-  pub fitting_end : length cs ≤ i → fits_in w cs ≡ true
-  unfolding fits_in
-  fitting_end l = sym k.rest ∙ ap (fits_in w) (drop_of_length-le cs l)
+-- as the library's `all` tests them
+pub all-fits : (w : ℕ) (cs : List ℤ) → list_all (has_bits w) cs ≡ fits_in w cs
+unfolding fits_in
+all-fits w [] = refl
+all-fits w (c ∷ cs) = ap (λ (t : Bool). has_bits w c && t) (all-fits w cs)

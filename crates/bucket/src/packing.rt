@@ -7,10 +7,10 @@
 //                        1 0 1  0 0 0  1 1|1  0 0 0 0 0 0 0
 //
 // They are written and read one bit at a time: `pack_bits` sets each at its place, `counter` reads each at its place.
-ghost use Rattle.std.specs.Prelude.{◌≡◌, ◌&&◌, true, map, ℕ, ◌+◌, ◌-◌, ◌*◌, ◌/◌, ◌%◌, ◌^◌, ◌≤◌, ◌<◌, pos, length, get_or};
-ghost use Rattle.bucket.specs.Digits.{bytes_for, packed, bit_at};
-ghost use Rattle.bucket.specs.Lists.{over};
-ghost use Rattle.bucket.specs.Packing.{number, numbers, has_bits, fits_in, is_width, takes, pack_into, pack_end, counters_at, counter_at, is_bare, unpacks, unpack_into};
+ghost use Rattle.std.specs.Prelude.{◌≡◌, ◌&&◌, true, false, map, ◌*◌, ◌/◌, ◌%◌, ◌^◌, ◌-◌, ◌≤◌, ◌<◌, pos, length, get_or, MatchOption};
+ghost use Rattle.bucket.specs.Digits.{bytes_for, packed, unpacked, bit_at};
+ghost use Rattle.bucket.specs.Lists.{part};
+ghost use Rattle.bucket.specs.Packing.{number, numbers, has_bits, fits_in, is_width, takes, Packed, pack_into, pack_end, counter_at, is_bare, unpacks, unpack_into};
 
 // Whether each count is a number of w bits, for a width of 1 to 32.
 pub fn fits(counts: &[i64], w: u32) -> bool
@@ -37,10 +37,10 @@ pub fn pack(counts: &[i64], w: u32, out: &mut [u8], at: usize) -> usize
 pub fn counter_at(s: &[u8], at: usize, n: usize, w: u32, i: usize) -> u32
     ensures { result ≡ counter_at w n at s.now i }
 {
-    match packed_at(s, at, n, w) {
-        Some(bytes) if i < n => counter(bytes, n, w, i),
-        _ => 0,
-    }
+    let Some(bytes) = packed_at(s, at, n, w) else {
+        return 0;
+    };
+    if i < n { counter(bytes, n, w, i) } else { 0 }
 }
 
 // Whether n counters stand packed at width w from a position on, with zeros in the spare bits behind them.
@@ -69,9 +69,16 @@ pub fn unpack(s: &[u8], at: usize, n: usize, w: u32, counts: &mut [i64], from: u
     true
 }
 
+// A count as the number that is packed: 0 where it is below zero.
+pub fn number_of(c: i64) -> u64
+    ensures { result ≡ number c }
+{
+    u64::try_from(c).unwrap_or(0)
+}
+
 // Packed bit j is bit j mod w, both counted from the highest from 0, of counter j / w; spare bits are zero.
 fn pack_bits(counts: &[i64], w: u32, out: &mut [u8])
-    requires { (1 ≤ w) × (w ≤ 32) × (length counts.now ≤ 65536) × (length out.old ≡ bytes_for (w * length counts.now)) }
+    requires { Packed w (length counts.now) out.old }
     ensures { out.new ≡ packed w (numbers counts.now) }
 {
     // Zeros, so that a bit is set by being put in, and those that are not put in are zero.
@@ -159,10 +166,4 @@ fn has_bits(c: i64, w: u32) -> bool
     ensures { result ≡ has_bits w c }
 {
     u64::try_from(c).is_ok_and(|n| n < 1 << w)
-}
-
-pub fn number_of(c: i64) -> u64
-    ensures { result ≡ number c }
-{
-    u64::try_from(c).unwrap_or(0)
 }
