@@ -1,12 +1,12 @@
 -- Bytes as the library gives and takes them: a number in its eight bytes, the last of them, and a number made up byte by byte. Assumes nothing.
-use mathlib.Core.Path.{◌≡◌, refl, sym, ap, ap₂, ◌∙◌}
+use mathlib.Core.Path.{◌≡◌, refl, sym, ap, ◌∙◌}
 use mathlib.Core.List.{List, [], ◌∷◌}
 use Prim.Native.Nat.{ℕ, zero, suc, ◌+◌, ◌-◌, ◌*◌, ◌/◌, ◌%◌, ◌^◌, ◌≤◌, ◌<◌}
-use native.Mathlib.Nat.{div-one, mod-eq_of_lt, mul-suc, mul-zero, mul-one, zero-add, suc-add}
+use native.Mathlib.Nat.{div-one, mod-eq_of_lt, zero-add, suc-add}
 use native.Mathlib.Omega.{arith}
 use lib.Bits.{bit_or, or_shifted}
-use lib.ListN.{length, get_or, take, drop}
-use lib.Pow.{pow-add, pow_mono, shl_exact}
+use lib.ListN.{length, take, drop}
+use lib.Pow.{pow-add, shl_exact}
 use lib.Seq.{take_all}
 use Rattle.std.specs.Int.{w64, to_be_bytes}
 use Rattle.std.specs.List.{fold}

@@ -1,15 +1,11 @@
 -- The purity test: the test by the tables, and what passes its first two conditions. Assumes nothing.
 use mathlib.Core.Path.{◌≡◌, refl, sym, ap, ap₂, ◌∙◌}
-use mathlib.Core.Bool.{Bool, true, false, ◌&&◌, false≢true}
-use Prim.Native.Nat.{ℕ, zero, suc, ◌^◌, ◌<◌}
-use native.Mathlib.Omega.{arith}
+use mathlib.Core.Bool.{Bool, true, ◌&&◌, false≢true}
+use Prim.Native.Nat.{ℕ, zero, suc}
 use lib.Bits.{bit_xor}
 use lib.Dec.{eqb}
 use lib.IntN.{ℤ, pos, negsuc, neg_ℤ, ◌+ℤ◌}
-use lib.Signed.{mag}
-use mir.Syntax.{w64}
-use mir.Val.{of_z, hbits}
-use borrow.Author.Tests.{eq-eqb, ne_eqb}
+use borrow.Author.Tests.{eq-eqb}
 use Rattle.bucket.specs.Crc.{crc_of, crc_tables, crc_by, next_by}
 use Rattle.bucket.specs.Lists.{elem}
 use Rattle.bucket.specs.Places.{places_by, places}

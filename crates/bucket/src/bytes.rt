@@ -33,7 +33,7 @@ pub fn put_number(s: &mut [u8], at: usize, k: usize, x: u64)
 pub fn wide(x: u8) -> u64
     ensures { (result ≡ x) × (result < 256) }
 {
-    x as u64
+    u64::from(x)
 }
 
 // The number in at most eight bytes.

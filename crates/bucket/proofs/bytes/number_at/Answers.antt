@@ -1,6 +1,6 @@
 -- `bucket::bytes::number_at` meets its contract: a part that ends past the end of the bytes is the part up to the end, and one that begins there is
 -- empty. Assumes nothing.
-use mathlib.Core.Path.{sym, ap, ◌∙◌}
+use mathlib.Core.Path.{sym, ap}
 use Prim.Native.Nat.{min}
 use Rattle.bucket.specs.Digits.{joined}
 use Rattle.bucket.proofs.OverLaws.{part-past}

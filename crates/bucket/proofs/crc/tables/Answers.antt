@@ -1,8 +1,8 @@
-use mathlib.Core.Path.{◌≡◌, refl, ap, subst, ◌∙◌}
-use Prim.Native.Nat.{ℕ, ◌-◌}
+use mathlib.Core.Path.{◌≡◌, refl, ap, ◌∙◌}
+use Prim.Native.Nat.{◌-◌}
 use native.Mathlib.Omega.{arith}
 use Rattle.bucket.specs.Crc.{steps, entry, crc_tables}
-use Rattle.bucket.proofs.TableLaws.{Filled, filled-all, filled_more, entry_first, entry_next}
+use Rattle.bucket.proofs.TableLaws.{filled-all, filled_more, entry_first, entry_next}
 use Rattle.bucket.proofs.crc.tables.Goals as goal
 use Rattle.bucket.proofs.crc.tables.Goals.{then-i-lt256, else-i-lt256}
 

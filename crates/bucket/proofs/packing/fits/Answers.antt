@@ -4,7 +4,7 @@ use mathlib.Core.Bool.{Bool, ◌&&◌}
 use borrow.Author.Tests.{tests}
 use Rattle.std.proofs.lemmas.Iterator.{YieldsList-from_slice}
 use Rattle.std.proofs.lemmas.Iterator.Search.{all_from_yields_List}
-use Rattle.bucket.specs.Packing.{is_width, has_bits, fits_in}
+use Rattle.bucket.specs.Packing.{has_bits, fits_in}
 use Rattle.bucket.proofs.NumberLaws.{all-fits}
 use Rattle.bucket.proofs.packing.fits.Goals as goal
 

@@ -1,6 +1,6 @@
 -- `bucket::purity::is_place` meets its contract: there are as many places as `places` gives but for the zeros behind them, and draw 0 leads to one.
 -- Assumes nothing.
-use mathlib.Core.Path.{◌≡◌, sym, ap, ◌∙◌}
+use mathlib.Core.Path.{sym, ap, ◌∙◌}
 use Prim.Native.Nat.{ℕ, min}
 use native.Mathlib.Omega.{arith}
 use borrow.Author.Tests.{eq-eqb, le-ltb}
