@@ -5,7 +5,7 @@ use mathlib.Core.Logic.{◌≢◌}
 use mathlib.Core.Bool.{Bool, true, false}
 use mathlib.Core.List.{List}
 use Prim.Native.Nat.{ℕ, zero, suc, ◌+◌, ◌-◌, ◌*◌, ◌/◌, ◌%◌, ◌^◌, ◌≤◌, ◌<◌}
-use native.Mathlib.Nat.{mod-eq_of_lt, zero-div, div-one, div-eq_of_lt, mul-add-div, mul-add-mod_self_left, mul_assoc, add-zero, lt_of_lt_of_le}
+use native.Mathlib.Nat.{mod-eq_of_lt, div-one, div-eq_of_lt, mul-add-div, mul-add-mod_self_left, mul_assoc, add-zero, lt_of_lt_of_le}
 use native.Mathlib.Omega.{arith}
 use lib.Bits.{bit_or, or_shr, or_mod, or_lt, or_zero_l, or_zero_r, shifted_even}
 use lib.Dec.{ltb}
@@ -17,7 +17,7 @@ use Rattle.bucket.specs.Digits.{bit_at, Below}
 use Rattle.bucket.specs.Lists.{part}
 use Rattle.bucket.proofs.OverLaws.{set_cases}
 use Rattle.bucket.proofs.RoomLaws.{bits_ahead}
-use Rattle.bucket.proofs.TestLaws.{each_more}
+use borrow.Author.Count.{below_more}
 
 -- ---- the same bits
 
@@ -71,7 +71,7 @@ read_next {bit = bit} {k = k} {x = x} r b small e =
     let last : (2 * x + b) % 2 ≡ b = omega arith in
     record {
       below = omega (arith, r.below, pow-add 2 k 1);
-      bits = each_more (λ (m : ℕ). (2 * x + b) / 2 ^ (k + 1 - 1 - m) % 2 ≡ bit m) k
+      bits = below_more (λ (m : ℕ). (2 * x + b) / 2 ^ (k + 1 - 1 - m) % 2 ≡ bit m) k
           (λ m h. half_bit (k + 1) k (2 * x + b) m refl h ∙ ap (λ (q : ℕ). q / 2 ^ (k - 1 - m) % 2) half ∙ r.bits m h)
           (last_bit (k + 1) k (2 * x + b) refl ∙ last ∙ e);
     }
@@ -103,9 +103,6 @@ pub record Written (bit : ℕ → ℕ) (j : ℕ) (bs : List ℕ) : Type 0 where
   pub done : (k : ℕ) → k < j → bit_at 8 bs k ≡ bit k
   pub rest : (k : ℕ) → j ≤ k → bit_at 8 bs k ≡ 0
 
-pub written_none : (bit : ℕ → ℕ) (bs : List ℕ) → ((i : ℕ) → get_or bs i 0 ≡ 0) → Written bit 0 bs
-written_none bit bs z = record { below = λ i. rw (z i) (omega arith); done = λ k h. absurd (omega arith); rest = λ k h. ap (λ (x : ℕ). x / 2 ^ (7 - k % 8) % 2) (z (k / 8)) ∙ ap (λ (x : ℕ). x % 2) (zero-div (2 ^ (7 - k % 8))) }
-
 module _ {bit : ℕ → ℕ} {j : ℕ} {bs : List ℕ} (f : Written bit j bs) (inside : j < 8 * length bs) (b : ℕ) (small : b < 2) where
   place : ℕ
   place = 7 - j % 8
@@ -119,7 +116,7 @@ module _ {bit : ℕ → ℕ} {j : ℕ} {bs : List ℕ} (f : Written bit j bs) (i
   written_next e =
       rw (shl_exact 1 place 8 small (omega arith)) (record {
         below = small_bytes;
-        done = each_more (λ (k : ℕ). bit_at 8 bs' k ≡ bit k) j (λ k h. others k (λ q. omega arith) ∙ f.done k h) (new ∙ e);
+        done = below_more (λ (k : ℕ). bit_at 8 bs' k ≡ bit k) j (λ k h. others k (λ q. omega arith) ∙ f.done k h) (new ∙ e);
         rest = λ k h. others k (λ q. omega arith) ∙ f.rest k (omega arith);
       })
     where

@@ -7,6 +7,7 @@ use native.Mathlib.Omega.{arith}
 use lib.Bits.{bit_xor, xor_shr, xor_mod, xor_comm, xor_zero_l, xor_zero_r, xor_lt}
 use lib.Dec.{lit<}
 use lib.ListN.{length}
+use Rattle.std.specs.List as Folds
 use Rattle.bucket.specs.Digits.{groups}
 use Rattle.bucket.specs.Crc.{fold, step, steps, feed, crc32, crc_of, crc_of_zero}
 use Rattle.bucket.proofs.DigitLaws.{groups-length}
@@ -54,6 +55,15 @@ feed-start a (b ∷ bs) =
 
     more : 8 + 8 * length bs ≡ 8 * suc (length bs)
     more = omega arith
+
+-- bytes taken in by a fold
+abbrev pub taken_in : ℕ → ℕ → ℕ
+taken_in c b = steps 8 (bit_xor c b)
+
+pub fold-feed : (c : ℕ) (bs : List ℕ) → Folds.fold taken_in c bs ≡ feed c bs
+unfolding feed
+fold-feed c [] = refl
+fold-feed c (b ∷ bs) = fold-feed (taken_in c b) bs
 
 pub feed-append : (a : ℕ) (bs cs : List ℕ) → feed a (bs ++ cs) ≡ feed (feed a bs) cs
 unfolding feed

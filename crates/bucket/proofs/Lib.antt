@@ -4,6 +4,7 @@ pub mod ListLaws
 pub mod OverLaws
 pub mod RoomLaws
 pub mod DigitLaws
+pub mod ByteLaws
 pub mod BitLaws
 pub mod PackedLaws
 pub mod NumberLaws

@@ -11,6 +11,8 @@ use lib.Dec.{eqb}
 use lib.ListN.{length, get_or, take, set, replicate, length-append, length-replicate, get_or-append}
 use lib.Seq.{set_at, take-suc}
 use borrow.Author.Tests.{eqb-true, eqb-false, eq-eqb, ne_eqb}
+use Rattle.std.specs.List.{list_any}
+use Rattle.std.proofs.lemmas.Bool.Decides.{nat_tests}
 use Rattle.bucket.specs.Lists.{pad, elem, Distinct}
 
 -- ---- tests
@@ -81,6 +83,15 @@ elem-append a (b ∷ l) m = ap (λ (t : Bool). eqb a b || t) (elem-append a l m)
 pub elem_last : (a b : ℕ) (l : List ℕ) → elem a (l ++ b ∷ []) ≡ elem a l || eqb a b
 unfolding elem
 elem_last a b l = elem-append a l (b ∷ []) ∙ ap (λ (t : Bool). elem a l || t) (or_false_r (eqb a b))
+
+eqb_comm : (a b : ℕ) → eqb a b ≡ eqb b a
+eqb_comm a b = grind (arith, nat_tests)
+
+-- as the library's `contains` tests it
+pub any-elem : (a : ℕ) (l : List ℕ) → list_any (λ b. eqb b a) l ≡ elem a l
+unfolding elem
+any-elem a [] = refl
+any-elem a (b ∷ l) = ap₂ (λ (s t : Bool). s || t) (eqb_comm b a) (any-elem a l)
 
 -- by index
 pub elem_at : (l : List ℕ) (j : ℕ) → j < length l → elem (get_or l j 0) l ≡ true

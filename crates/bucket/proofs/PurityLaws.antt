@@ -1,15 +1,11 @@
--- The purity test: a count's test by its bits, the test by the tables, and what passes its first two conditions. Assumes nothing.
+-- The purity test: the test by the tables, and what passes its first two conditions. Assumes nothing.
 use mathlib.Core.Path.{◌≡◌, refl, sym, ap, ap₂, ◌∙◌}
-use mathlib.Core.Bool.{Bool, true, false, ◌&&◌, false≢true}
-use Prim.Native.Nat.{ℕ, zero, suc, ◌^◌, ◌<◌}
-use native.Mathlib.Omega.{arith}
+use mathlib.Core.Bool.{Bool, true, ◌&&◌, false≢true}
+use Prim.Native.Nat.{ℕ, zero, suc}
 use lib.Bits.{bit_xor}
 use lib.Dec.{eqb}
 use lib.IntN.{ℤ, pos, negsuc, neg_ℤ, ◌+ℤ◌}
-use lib.Signed.{mag}
-use mir.Syntax.{w64}
-use mir.Val.{of_z, hbits}
-use borrow.Author.Tests.{eq-eqb, ne_eqb}
+use borrow.Author.Tests.{eq-eqb}
 use Rattle.bucket.specs.Crc.{crc_of, crc_tables, crc_by, next_by}
 use Rattle.bucket.specs.Lists.{elem}
 use Rattle.bucket.specs.Places.{places_by, places}
@@ -17,41 +13,6 @@ use Rattle.bucket.specs.Bucket.{Bucket, bucket, ◌⊕◌, neg, ◌⊖◌, is_on
 use Rattle.bucket.proofs.CrcLaws.{crc_xor3}
 use Rattle.bucket.proofs.TableLaws.{crc_by_tables}
 use Rattle.bucket.proofs.PlaceLaws.{places_by_tables}
-
--- ---- a count's test
-
-pub is_one_plus : (z : ℤ) → mag z < 2 ^ hbits w64 → of_z w64 z ≡ 1 → true ≡ is_one z
-is_one_plus (pos n) f e = rw e
-is_one_plus (negsuc n) f e = absurd (omega arith)
-
-pub is_one-minus : (z : ℤ) → mag z < 2 ^ hbits w64 → (of_z w64 z ≡ 1 → ⊥) → eqb (of_z w64 z) 18446744073709551615 ≡ is_one z
-is_one-minus (pos zero) f ne = refl
-is_one-minus (pos (suc zero)) f ne = absurd (ne refl)
-is_one-minus (pos (suc (suc n))) f ne = ne_eqb (suc (suc n)) 18446744073709551615 (λ e. omega arith)
-is_one-minus (negsuc zero) f ne = refl
-is_one-minus (negsuc (suc n)) f ne = ne_eqb (of_z w64 (negsuc (suc n))) 18446744073709551615 (λ e. omega arith)
-
--- ---- the three conditions in turn
-
-module _ (crc : ℕ → ℕ) (next : ℕ → ℕ → ℕ) (k size i x h : ℕ) (c : ℤ) where
-  pub pure_place : is_one c ≡ true → crc x ≡ h → elem i (places_by next k size h) ≡ looks_pure_by crc next k size i (bucket x h c)
-  unfolding looks_pure_by
-  pure_place p q =
-      sym (ap₂ (λ (s t : Bool). s && (t && elem i (places_by next k size (crc x)))) p (eq-eqb h (crc x) (sym q))
-      ∙ ap (λ (d : ℕ). elem i (places_by next k size d)) q)
-
-  pub impure_sum : (crc x ≡ h → ⊥) → false ≡ looks_pure_by crc next k size i (bucket x h c)
-  unfolding looks_pure_by
-  impure_sum ne =
-      sym (ap (λ (t : Bool). is_one c && (t && elem i (places_by next k size (crc x)))) (ne_eqb h (crc x) (λ e. ne (sym e))) ∙ both (is_one c))
-    where
-      both : (t : Bool) → t && false ≡ false
-      both true = refl
-      both false = refl
-
-  pub impure_count : is_one c ≡ false → false ≡ looks_pure_by crc next k size i (bucket x h c)
-  unfolding looks_pure_by
-  impure_count p = sym (ap (λ (s : Bool). s && (eqb h (crc x) && elem i (places_by next k size (crc x)))) p)
 
 -- ---- the tables' test is the definition's
 

@@ -16,7 +16,7 @@ use Rattle.bucket.specs.Crc.{steps, feed, crc_of, entry, tabulated, crc_tables, 
 use Rattle.bucket.specs.Places.{crc_next}
 use Rattle.bucket.proofs.ListLaws.{elem_at, at_index, distinct_of, distinct-count}
 use Rattle.bucket.proofs.DigitLaws.{groups-length, groups-append, groups-mod}
-use Rattle.bucket.proofs.TestLaws.{each_more}
+use borrow.Author.Count.{below_more}
 use Rattle.bucket.proofs.XorLaws.{xor_assoc}
 use Rattle.bucket.proofs.CrcLaws.{steps_xor, steps_zero, steps-add, feed-start, feed-append, crc_split}
 
@@ -90,7 +90,7 @@ pub filled_more : (f : ℕ → ℕ) (m n v : ℕ) (t : List ℕ) → Filled f m 
 filled_more f m n v t g h e = record {
   within = omega arith;
   long = length-set t n v ∙ g.long;
-  each = each_more (λ (i : ℕ). get_or (set t n v) i 0 ≡ f i) n (λ i l. get_or-set_other t n i v 0 (λ q. omega arith) ∙ g.each i l)
+  each = below_more (λ (i : ℕ). get_or (set t n v) i 0 ≡ f i) n (λ i l. get_or-set_other t n i v 0 (λ q. omega arith) ∙ g.each i l)
       (get_or-set_same t n v 0 (omega (arith, g.long)) ∙ e);
 }
 

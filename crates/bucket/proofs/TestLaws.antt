@@ -1,10 +1,11 @@
 -- What tests say of what they chose, and of each other. Assumes nothing.
-use mathlib.Core.Path.{◌≡◌, refl, sym, ap, subst, ◌∙◌}
+use mathlib.Core.Path.{◌≡◌, refl, sym, ap, ◌∙◌}
 use mathlib.Core.Bool.{Bool, true, false, not, ◌&&◌, cond}
 use Prim.Native.Nat.{ℕ, ◌+◌, ◌-◌, ◌≤◌, ◌<◌}
 use native.Mathlib.Omega.{arith}
-use lib.Dec.{eqb, leb}
-use borrow.Author.Tests.{eqb-true, eqb-false, not-true, not-false, leb-true, leb-false, le-leb, lt-leb}
+use lib.Dec.{leb}
+use borrow.Author.Count.{below_more}
+use borrow.Author.Tests.{not-true, not-false, leb-true, leb-false, le-leb, lt-leb}
 
 pub and_fails : (a : Bool) {b : Bool} → b ≡ false → a && b ≡ false
 and_fails true h = h
@@ -26,13 +27,9 @@ test_refused {r} e h = sym e ∙ not-true r h
 pub test_granted : {r t : Bool} → r ≡ t → not r ≡ false → t ≡ true
 test_granted {r} e h = sym e ∙ not-false r h
 
--- what holds below j, and at j
+-- what holds below j, and at j: the library's, under the name that the crates above cite
 pub each_more : (P : ℕ → Type 0) (j : ℕ) → ((k : ℕ) → k < j → P k) → P j → (k : ℕ) → k < j + 1 → P k
-each_more P j below here k h = go (eqb k j) refl
-  where
-    go : (t : Bool) → eqb k j ≡ t → P k
-    go true e = subst P (sym (eqb-true k j e)) here
-    go false e = let ne = eqb-false k j e in below k (omega arith)
+each_more = below_more
 
 -- a difference that does not fall below zero, or a sum that does not wrap
 pub leb_move : (a b c : ℕ) → b ≤ c → leb a (c - b) ≡ leb (a + b) c

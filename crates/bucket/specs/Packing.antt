@@ -4,6 +4,7 @@
 --   is_width w             1 to 32
 --   fits_in w cs           each count is a number of w bits
 --   takes w n at room     n counters of width w from position at on lie within room bytes (at most 65,536 of them)
+--   Packed w n bs         bytes in which n counters of width w stand
 --   pack_into w cs at s    the memory s with the counts packed into it from at on; pack_end: the position behind them
 --   counter_at w n at s i  counter i of n that stand in s from at on
 --   is_bare w n at s       the spare bits behind them are zero
@@ -12,7 +13,7 @@
 -- Where the counts do not fit the width, or the bytes or the column are too short, nothing is written.
 -- Laws (proofs/RoundLaws): bit-written, spare-written, bit-read: where each bit stands in memory; packed-back, packed-bare: what was packed is read back.
 -- Assumes nothing.
-use Rattle.std.specs.Prelude.{Bool, true, false, ◌&&◌, cond, List, [], ◌∷◌, map, ℕ, ◌+◌, ◌*◌, ◌^◌, eqb, ltb, leb, ℤ, pos, negsuc, length, get_or}
+use Rattle.std.specs.Prelude.{◌≡◌, Bool, true, false, ◌&&◌, cond, List, [], ◌∷◌, map, ℕ, ◌+◌, ◌*◌, ◌^◌, ◌≤◌, eqb, ltb, leb, ℤ, pos, negsuc, length, get_or}
 use Rattle.bucket.specs.Digits.{bytes_for, packed, unpacked, spare_bits}
 use Rattle.bucket.specs.Lists.{over, part}
 
@@ -36,6 +37,10 @@ is_width w = leb 1 w && leb w 32
 
 abbrev pub takes : ℕ → ℕ → ℕ → ℕ → Bool
 takes w n at room = is_width w && (leb n 65536 && leb (at + bytes_for (w * n)) room)
+
+-- bytes in which n counters of width w stand
+abbrev pub Packed : ℕ → ℕ → List ℕ → Type 0
+Packed w n bs = (1 ≤ w) × (w ≤ 32) × (n ≤ 65536) × (length bs ≡ bytes_for (w * n))
 
 -- the counts can be packed
 abbrev pub packs : ℕ → List ℤ → ℕ → List ℕ → Bool

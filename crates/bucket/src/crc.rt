@@ -8,25 +8,14 @@ const OF_ZERO: u32 = 0x6522_DF69;
 pub fn crc_bytes(s: &[u8]) -> u32
     ensures { result ≡ crc32 s.now }
 {
-    let mut c: u32 = 0xFFFF_FFFF;
-    let mut i = 0;
-    while i < s.len() {
-        c = octet(c ^ (s[i] as u32));
-        i += 1;
-    }
+    let c = s.iter().fold(0xFFFF_FFFF, |c, b| octet(c ^ u32::from(*b)));
     c ^ 0xFFFF_FFFF
 }
 
 pub fn crc(x: u64) -> u32
     ensures { result ≡ crc_of x }
 {
-    let mut c: u32 = 0xFFFF_FFFF;
-    let mut k: u32 = 8;
-    while 0 < k {
-        k -= 1;
-        c = octet(c ^ ((x >> (8 * k)) % 256) as u32);
-    }
-    c ^ 0xFFFF_FFFF
+    crc_bytes(&x.to_be_bytes())
 }
 
 // The eight tables, row k for a byte with k bytes behind it: to be made once a call and lent down.
@@ -34,11 +23,9 @@ pub fn tables() -> [u32; 2048]
     ensures { result ≡ crc_tables }
 {
     let mut tab = [0u32; 2048];
-    let mut i: usize = 0;
-    while i < 2048 {
+    for i in 0..2048 {
         let v = if i < 256 { i as u32 } else { tab[i - 256] };
         tab[i] = octet(v);
-        i += 1;
     }
     tab
 }
@@ -65,9 +52,7 @@ fn looked_up(tab: &[u32; 2048], row: usize, n: usize, x: u64, start: u32) -> u32
     ensures { result ≡ looked_up tab.now row x n start }
 {
     let mut c = start;
-    let mut k = n;
-    while 0 < k {
-        k -= 1;
+    for k in (0..n).rev() {
         let b = ((x >> (8 * k)) % 256) as usize;
         c = c ^ tab[(row + k) * 256 + b];
     }

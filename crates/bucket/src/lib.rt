@@ -11,13 +11,12 @@ pub mod packing;
 pub mod places;
 pub mod purity;
 pub mod salting;
-mod taken;
 
 ghost use Rattle.std.specs.Prelude.{◌≡◌, min};
 
-// The lesser of two numbers.
+// The lesser of two numbers: the library's, under the name that the crates above call it by.
 pub fn least(x: usize, y: usize) -> usize
     ensures { result ≡ min x y }
 {
-    if x < y { x } else { y }
+    x.min(y)
 }

@@ -16,37 +16,31 @@ pub fn place_count(size: u32) -> usize
 pub fn places(tab: &[u32; 2048], d: u32, size: u32, k: usize) -> [u32; 4]
     ensures { result ≡ pad 4 (places_by (next_by tab.now) (min 4 k) size d) }
 {
-    let most = crate::least(4, k);
+    let most = k.min(4);
     let mut taken = [0u32; 4];
-    if crate::least(most, size as usize) == 0 {
+    if most == 0 || size == 0 {
         return taken;
     }
     let mut n: usize = 0;
     let mut e = d;
-    let mut i: u32 = 0;
-    'draws: loop {
-        if i == 64 {
-            fill(&mut taken, n, size, most);
-            break;
-        }
+    'draws: for i in 0..64 {
         let c = e % size;
-        let mut j: usize = 0;
-        'taken: loop {
-            if j == n {
-                taken[n] = c;
-                n += 1;
-                if n == most {
-                    break 'draws;
+        'taken: {
+            for p in &taken[..n] {
+                if *p == c {
+                    break 'taken;
                 }
-                break;
             }
-            if taken[j] == c {
-                break;
+            taken[n] = c;
+            n += 1;
+            if n == most {
+                break 'draws;
             }
-            j += 1;
         }
         e = crate::crc::next_draw(tab, e, i);
-        i += 1;
+    }
+    if n < most {
+        fill(&mut taken, n, size, most);
     }
     taken
 }
@@ -58,15 +52,13 @@ fn fill(taken: &mut [u32], found: usize, size: u32, k: usize)
         ≡ pad (length taken.old) (firsts k (take found taken.old) (tabulated (λ c. c) 0 size)) }
 {
     let mut n = found;
-    let mut c: u32 = 0;
-    while c < size {
+    for c in 0..size {
         if n == k {
             return;
         }
-        if !crate::taken::is_taken(taken, n, c) {
+        if !taken[..n].contains(&c) {
             taken[n] = c;
             n += 1;
         }
-        c += 1;
     }
 }

@@ -1,9 +1,9 @@
 -- `bucket::bytes::number_at` meets its contract: a part that ends past the end of the bytes is the part up to the end, and one that begins there is
 -- empty. Assumes nothing.
-use mathlib.Core.Path.{sym, ap, ◌∙◌}
+use mathlib.Core.Path.{sym, ap}
 use Prim.Native.Nat.{min}
 use Rattle.bucket.specs.Digits.{joined}
-use Rattle.bucket.proofs.OverLaws.{part-min, part-past}
+use Rattle.bucket.proofs.OverLaws.{part-past}
 use native.Mathlib.Omega.{arith}
 use Rattle.bucket.proofs.bytes.number_at.Goals as goal
 
@@ -11,11 +11,3 @@ pub returns-then-s-at : goal.returns-then-s-at
 unfolding joined
 returns-then-s-at c = let a = c.args in
     sym (ap (joined 8) (part-past a.at (min 8 a.k) a.s.now (omega arith)))
-
-pub returns-then-k-left : goal.returns-then-k-left
-returns-then-k-left c = let a = c.args in
-    c.joined_at.ensures ∙ ap (joined 8) (part-min a.at (min 8 a.k) a.k a.s.now (omega arith))
-
-pub returns : goal.returns
-returns c = let a = c.args in
-    c.joined_at-2.ensures ∙ ap (joined 8) (part-min a.at (min 8 a.k) c.least-2.result a.s.now (omega arith))

@@ -1,31 +1,20 @@
--- `bucket::bytes::put_number` meets its contract: each early return is where the test of the contract is false. Assumes nothing.
-use mathlib.Core.Path.{ap, ◌∙◌}
-use mathlib.Core.Bool.{Bool, ◌&&◌}
-use Prim.Native.Nat.{◌+◌}
-use lib.Dec.{leb}
-use lib.ListN.{length}
-use borrow.Author.Tests.{le-leb, lt-leb}
-use Rattle.bucket.specs.Digits.{put_into}
-use Rattle.bucket.proofs.TestLaws.{and_fails, and_holds, cond-kept, cond-made}
-use native.Mathlib.Omega.{arith}
+-- `bucket::bytes::put_number` meets its contract: the early return is where the test of the contract is false, and the last k of a number's eight
+-- bytes are its k low ones. Assumes nothing.
+use Rattle.std.proofs.Common.{◌≡◌, ◌∙◌, ◌+◌, arith}
+use Rattle.bucket.specs.Digits.{groups, put_into}
+use Rattle.bucket.proofs.ByteLaws.{last-bytes}
+use Rattle.bucket.proofs.DigitLaws.{groups-length}
+use Rattle.bucket.proofs.OverLaws.{over-part}
+use Rattle.std.proofs.lemmas.Bool.Decides.{nat_tests}
 use Rattle.bucket.proofs.bytes.put_number.Goals as goal
 
 pub returns-then-k-gt8 : goal.returns-then-k-gt8
 unfolding put_into
-returns-then-k-gt8 c = let a = c.args in
-    cond-kept _ _ (ap (λ (t : Bool). t && leb (a.at + a.k) (length a.s.now)) (lt-leb a.k 8 (omega arith)))
-
-pub returns-then-s-k : goal.returns-then-s-k
-unfolding put_into
-returns-then-s-k c = let a = c.args in
-    cond-kept _ _ (and_fails (leb a.k 8) (lt-leb (a.at + a.k) (length a.s.now) (omega arith)))
-
-pub returns-then-s-k-2 : goal.returns-then-s-k-2
-unfolding put_into
-returns-then-s-k-2 c = let a = c.args in
-    cond-kept _ _ (and_fails (leb a.k 8) (lt-leb (a.at + a.k) (length a.s.now) (omega arith)))
+returns-then-k-gt8 c = grind (arith, nat_tests)
 
 pub returns : goal.returns
 unfolding put_into
 returns c = let a = c.args in
-    c.put_groups.ensures ∙ cond-made _ _ (and_holds (le-leb a.k 8 (omega arith)) (le-leb (a.at + a.k) (length a.s.now) (omega arith)))
+    let new : c.copy_from_slice.new.self ≡ groups 8 a.k a.x = c.copy_from_slice.ensures.after ∙ rw c.to_be_bytes.ensures (last-bytes a.k a.x (omega arith)) in
+    rw (new, over-part a.at (a.at + a.k) (groups 8 a.k a.x) a.s.now (omega (arith, groups-length 8 a.k a.x)))
+    (grind (arith, nat_tests))

@@ -1,21 +1,9 @@
-use mathlib.Core.Path.{◌≡◌, refl}
-use Prim.Native.Nat.{suc, ◌-◌}
-use native.Mathlib.Omega.{arith}
-use Rattle.bucket.specs.Crc.{crc_of, crc32, feed}
-use Rattle.bucket.specs.Digits.{groups}
+-- `bucket::crc::crc` meets its contract: the CRC-32 of a number is that of its eight bytes. Assumes nothing.
+use Rattle.std.proofs.Common.{ap, ◌∙◌}
+use Rattle.bucket.specs.Crc.{crc_of, crc32}
+use Rattle.bucket.proofs.ByteLaws.{be-bytes}
 use Rattle.bucket.proofs.crc.crc.Goals as goal
 
-pub loop-k-init : goal.loop-k-init
-loop-k-init c = (omega arith, refl)
-
-pub loop-k-preserved : goal.loop-k-preserved
-unfolding feed groups
-loop-k-preserved c = let k = c.loop-k.k in
-    let more : k ≡ suc (k - 1) = omega arith in
-    (omega arith, rw c.octet-c.ensures (rw more at c.loop-k.invariant.1))
-
 pub returns : goal.returns
-unfolding crc_of crc32 feed groups
-returns c = let none : c.loop-k.k ≡ 0 = omega arith in
-    let all = rw none at c.loop-k.invariant.1 in
-    rw all
+unfolding crc_of
+returns c = c.crc_bytes.ensures ∙ ap crc32 (c.to_be_bytes.ensures ∙ be-bytes c.args.x)

@@ -1,8 +1,8 @@
-use mathlib.Core.Path.{◌≡◌, refl, ap, subst, ◌∙◌}
-use Prim.Native.Nat.{ℕ, ◌-◌}
+use mathlib.Core.Path.{◌≡◌, refl, ap, ◌∙◌}
+use Prim.Native.Nat.{◌-◌}
 use native.Mathlib.Omega.{arith}
 use Rattle.bucket.specs.Crc.{steps, entry, crc_tables}
-use Rattle.bucket.proofs.TableLaws.{Filled, filled-all, filled_more, entry_first, entry_next}
+use Rattle.bucket.proofs.TableLaws.{filled-all, filled_more, entry_first, entry_next}
 use Rattle.bucket.proofs.crc.tables.Goals as goal
 use Rattle.bucket.proofs.crc.tables.Goals.{then-i-lt256, else-i-lt256}
 
@@ -21,5 +21,5 @@ loop-i-preserved c = let at = c.loop-i in
 pub returns : goal.returns
 unfolding crc_tables
 returns c = let at = c.loop-i in
-    let e : at.i ≡ 2048 = omega (arith, at.invariant.within, c.loop-i-test.false) in
-    filled-all entry 2048 at.tab (subst (λ (n : ℕ). Filled entry 2048 n at.tab) e at.invariant)
+    let all : at.i ≡ 2048 = omega arith in
+    filled-all entry 2048 at.tab (rw all at at.invariant)

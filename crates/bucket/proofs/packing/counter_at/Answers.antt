@@ -1,23 +1,20 @@
 -- `bucket::packing::counter_at` meets its contract: the counter where there is one, and past the last one there is none. Assumes nothing.
-use mathlib.Core.Path.{◌∙◌}
-use Rattle.bucket.proofs.TestLaws.{test_refused, test_granted}
-use Rattle.bucket.proofs.ReadLaws.{counter_not, counter_here, counter_past}
-use native.Mathlib.Omega.{arith}
-use Rattle.std.proofs.Common.{ap}
-use mathlib.Core.Bool.{not}
+use Rattle.std.proofs.Common.{◌≡◌, get_or, arith}
+use Rattle.std.proofs.lemmas.Bool.Decides.{nat_tests}
+use Rattle.bucket.specs.Packing.{counters_at, counter_at}
+use Rattle.bucket.proofs.ReadLaws.{none-past}
 use Rattle.bucket.proofs.packing.counter_at.Goals as goal
 
-pub returns-then-not-takes_room : goal.returns-then-not-takes_room
-returns-then-not-takes_room c = let a = c.args in
-    counter_not a.s.now a.at a.n a.w a.i (test_refused c.takes_room.ensures (ap not c.if-not-takes_room.true))
+pub returns-in_default : goal.returns-in_default
+unfolding counter_at
+returns-in_default c = grind (arith, nat_tests)
 
-pub returns-then-n-i : goal.returns-then-n-i
-returns-then-n-i c = let a = c.args in
-    counter_past a.s.now a.at a.n a.w a.i (test_granted c.takes_room.ensures (ap not c.if-not-takes_room.false)) (omega arith)
+pub returns-then-i-n : goal.returns-then-i-n
+unfolding counter_at
+returns-then-i-n c = grind (arith, nat_tests)
 
-pub counter-requires : goal.counter-requires
-counter-requires c = (test_granted c.takes_room.ensures (ap not c.if-not-takes_room.false), omega arith)
-
-pub returns : goal.returns
-returns c = let a = c.args in
-    c.counter.ensures ∙ counter_here a.s.now a.at a.n a.w a.i (test_granted c.takes_room.ensures (ap not c.if-not-takes_room.false))
+pub returns-else-i-n : goal.returns-else-i-n
+unfolding counter_at
+returns-else-i-n c = let a = c.args in
+    let none : get_or (counters_at a.w a.n a.at a.s.now) a.i 0 ≡ 0 = none-past a.w a.n _ a.i (omega arith) in
+    grind (arith, nat_tests)

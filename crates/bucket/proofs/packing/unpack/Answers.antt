@@ -1,39 +1,29 @@
 -- `bucket::packing::unpack` meets its contract: each early return is where one of the two tests of the contract is false. Assumes nothing.
-use mathlib.Core.Path.{sym, ap, ◌∙◌}
-use mathlib.Core.Bool.{Bool, ◌&&◌}
-use Prim.Native.Nat.{◌+◌}
-use lib.Dec.{leb}
-use lib.ListN.{length}
-use borrow.Author.Tests.{le-leb, lt-leb}
-use Rattle.bucket.specs.Packing.{takes, unpack_into}
-use Rattle.bucket.proofs.TestLaws.{and_fails, and_holds, cond-kept, cond-made, test_refused, test_granted}
-use native.Mathlib.Omega.{arith}
-use mathlib.Core.Bool.{not}
+use Rattle.std.proofs.Common.{ℕ, List, map, pos, ◌≡◌, ◌+◌, ◌∙◌, ap, ap₂, arith}
+use borrow.Rule.Slice.PartMut.{mid_len}
+use Rattle.std.proofs.lemmas.Bool.Decides.{nat_tests}
+use Rattle.bucket.specs.Digits.{unpacked}
+use Rattle.bucket.specs.Packing.{counters_at, unpack_into}
+use Rattle.bucket.proofs.NumberLaws.{counts-length}
+use Rattle.bucket.proofs.OverLaws.{over-part}
 use Rattle.bucket.proofs.packing.unpack.Goals as goal
 
-pub returns-then-not-takes_room : goal.returns-then-not-takes_room
+pub returns-in_default : goal.returns-in_default
 unfolding unpack_into
-returns-then-not-takes_room c = let a = c.args in
-    let no = ap (λ (t : Bool). t && leb (a.from + a.n) (length a.counts.now)) (test_refused c.takes_room.ensures (ap not c.if-not-takes_room.true)) in
-    (sym no, cond-kept _ _ no)
+returns-in_default c = (grind (arith, nat_tests), grind (arith, nat_tests))
 
 pub returns-then-counts-n : goal.returns-then-counts-n
 unfolding unpack_into
-returns-then-counts-n c = let a = c.args in
-    let no = and_fails (takes a.w a.n a.at (length a.s.now)) (lt-leb (a.from + a.n) (length a.counts.now) (omega arith)) in
-    (sym no, cond-kept _ _ no)
-
-pub returns-then-counts-n-2 : goal.returns-then-counts-n-2
-unfolding unpack_into
-returns-then-counts-n-2 c = let a = c.args in
-    let no = and_fails (takes a.w a.n a.at (length a.s.now)) (lt-leb (a.from + a.n) (length a.counts.now) (omega arith)) in
-    (sym no, cond-kept _ _ no)
-
-pub unpack_all-requires : goal.unpack_all-requires
-unpack_all-requires c = (test_granted c.takes_room.ensures (ap not c.if-not-takes_room.false), omega arith)
+returns-then-counts-n c = (grind (arith, nat_tests), grind (arith, nat_tests))
 
 pub returns : goal.returns
 unfolding unpack_into
 returns c = let a = c.args in
-    let yes = and_holds (test_granted c.takes_room.ensures (ap not c.if-not-takes_room.false)) (le-leb (a.from + a.n) (length a.counts.now) (omega arith)) in
-    (sym yes, c.unpack_all.ensures ∙ cond-made _ _ yes)
+    let there = c.in-Some.ensures in
+    let xs = map pos (counters_at a.w a.n a.at a.s.now) in
+    let laid : c.unpack_all.new.column ≡ xs =
+    c.unpack_all.ensures
+    ∙ ap₂ (λ (n : ℕ) (bs : List ℕ). map pos (unpacked a.w n bs)) (mid_len a.from (a.from + a.n) a.counts.now (omega arith) ∙ omega arith) there.1 in (
+      grind (arith, nat_tests),
+      rw (laid, over-part a.from (a.from + a.n) xs a.counts.now (ap (λ (n : ℕ). a.from + n) (counts-length a.w a.n _))) (grind (arith, nat_tests)),
+    )

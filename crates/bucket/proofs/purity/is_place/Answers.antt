@@ -3,29 +3,30 @@
 use mathlib.Core.Path.{sym, ap, ◌∙◌}
 use Prim.Native.Nat.{ℕ, min}
 use native.Mathlib.Omega.{arith}
+use borrow.Author.Tests.{eq-eqb, le-ltb}
 use lib.ListN.{take}
 use Rattle.bucket.specs.Crc.{next_by}
 use Rattle.bucket.specs.Lists.{elem}
 use Rattle.bucket.specs.Places.{places_by}
-use Rattle.bucket.proofs.ListLaws.{elem-nil}
+use Rattle.bucket.proofs.ListLaws.{any-elem, elem-nil}
 use Rattle.bucket.proofs.PlaceLaws.{places-back, first-placed}
 use Rattle.bucket.proofs.purity.is_place.Goals as goal
 
-pub returns-then-n-eq0 : goal.returns-then-n-eq0
-returns-then-n-eq0 c = let args = c.args in
-    sym (elem-nil args.i)
-    ∙ ap (elem args.i) (places-back (next_by args.tab.now) (min 4 args.k) args.size args.d 4 0 (omega arith))
-
 pub returns-then-d-size : goal.returns-then-d-size
 returns-then-d-size c = let args = c.args in
-    sym
+    eq-eqb _ _ c.if-d-size.true
+    ∙ sym
     (ap (λ (b : ℕ). elem b (places_by (next_by args.tab.now) (min 4 args.k) args.size args.d)) (sym c.if-d-size.true)
     ∙ first-placed (next_by args.tab.now) (min 4 args.k) args.size args.d (omega arith) (omega arith))
 
-pub returns : goal.returns
-returns c = let args = c.args in
-    let n = c.least-n.result in
-    c.is_taken.ensures
-    ∙ ap (elem args.i)
-    (ap (take n) c.places-p.ensures
-    ∙ places-back (next_by args.tab.now) (min 4 args.k) args.size args.d 4 n (omega arith))
+pub returns-else-d-size : goal.returns-else-d-size
+returns-else-d-size c = let args = c.args in
+    let n = c.min-n.result in
+    c.contains.ensures.value ∙ any-elem args.i _
+    ∙ ap (elem args.i) (ap (take n) c.places.ensures ∙ places-back (next_by args.tab.now) (min 4 args.k) args.size args.d 4 n (omega arith))
+
+pub returns-else-n-gt0 : goal.returns-else-n-gt0
+returns-else-n-gt0 c = let args = c.args in
+    le-ltb _ _ c.if-n-gt0.false
+    ∙ sym (elem-nil args.i)
+    ∙ ap (elem args.i) (places-back (next_by args.tab.now) (min 4 args.k) args.size args.d 4 0 (omega arith))
