@@ -1,6 +1,5 @@
 -- `judging::all_zero` meets its contract: columns that are zero one by one are zero buckets. Assumes nothing.
-use mathlib.Core.Path.{◌≡◌, sym, ap, ap₂, ◌∙◌}
-use mathlib.Core.Bool.{Bool, ◌&&◌}
+use mathlib.Core.Path.{◌≡◌, sym, ◌∙◌}
 use lib.Dec.{eqb}
 use lib.IntN.{pos}
 use lib.ListN.{take}
@@ -9,7 +8,6 @@ use Rattle.std.proofs.lemmas.Iterator.{YieldsList-from_slice}
 use Rattle.std.proofs.lemmas.Iterator.Search.{all_from_yields_List}
 use Rattle.std.specs.List.{list_all}
 use Rattle.std.specs.Ordering.{int_eq}
-use Rattle.bucket.specs.Bucket.{is_zero_ℤ}
 use Rattle.filter.proofs.JudgeLaws.{zero-columns}
 use Rattle.filter.proofs.judging.all_zero.Goals as goal
 use Rattle.filter.proofs.judging.all_zero.Goals.{After-all, After-all-then-all, After-all-then-all-2}
