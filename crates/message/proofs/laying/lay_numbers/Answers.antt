@@ -1,4 +1,4 @@
-use Rattle.std.proofs.Common.{ap, ◌∙◌, ℕ, List, arith, length, map, take, set, ◌≡◌, ◌*◌, ◌<◌, ◌≤◌, min}
+use Rattle.std.proofs.Common.{◌∙◌, length, map, ◌≡◌, ◌*◌}
 use Rattle.std.proofs.Math.Nat.{min-eq_right}
 use Rattle.std.proofs.lemmas.List.{length-map, map-set}
 use Rattle.message.specs.Reading.{field}

@@ -2,7 +2,6 @@
 use Prim.Native.Nat.{◌+◌, ◌-◌, ◌*◌}
 use native.Mathlib.Nat.{add-sub_cancel_left}
 use native.Mathlib.Omega.{arith}
-use lib.ListN.{length}
 use Rattle.bucket.specs.Columns.{columns}
 use Rattle.bucket.proofs.OverLaws.{part_length}
 use Rattle.bucket.proofs.PackedLaws.{unpacked-length}
