@@ -7,7 +7,7 @@ use native.Mathlib.Nat.{zero-lt-suc}
 use native.Mathlib.Omega.{arith}
 use borrow.Author.Tests.{ltb-true, eqb-true, eq-eqb}
 use lib.Dec.{ltb, eqb}
-use lib.ListN.{length, get_or, take, drop}
+use lib.ListN.{length, take, drop}
 use lib.Seq.{get_or-drop, take-take}
 use Rattle.std.specs.Cmp.Lexicographic.{pointwise, bytes_decides, slice_partial_cmp}
 use Rattle.std.specs.Int.{w64, from_be_bytes}

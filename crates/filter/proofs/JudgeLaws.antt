@@ -1,19 +1,48 @@
 -- The verdict's tests as the code makes them: columns that are zero one by one, listed IDs that the table holds or not; and the table's test over
 -- the two lists as it stands in the definition, over the items. Assumes nothing.
-use mathlib.Core.Path.{◌≡◌, refl, sym, ap, ap₂, ◌∙◌}
+use mathlib.Core.Path.{◌≡◌, refl, ap, ap₂, ◌∙◌}
 use mathlib.Core.Bool.{Bool, true, false, not, ◌&&◌, ◌||◌, true≢false, false≢true}
 use mathlib.Core.List.{List, [], ◌∷◌, ◌++◌, reverse, reverse-cons}
-use Prim.Native.Nat.{ℕ, suc, ◌+◌, ◌≤◌, ◌<◌}
+use Prim.Native.Nat.{ℕ, zero, suc}
 use native.Mathlib.Numerals.{add-one}
 use native.Mathlib.Omega.{arith}
-use lib.ListN.{length, get_or, take, drop, drop_of_length-le}
-use lib.Seq.{drop-cons, get_or-take, length-take-le}
+use lib.Dec.{eqb}
+use lib.IntN.{ℤ, pos, negsuc}
+use lib.ListN.{get_or, take}
+use Rattle.std.proofs.lemmas.Bool.Decides.{nat_tests}
 use Rattle.std.specs.List.{list_all, list_any}
-use Rattle.bucket.specs.Bucket.{Bucket, is_zero}
+use Rattle.std.specs.Ordering.{int_eq}
+use Rattle.std.proofs.lemmas.List.Folds.{list_all_more}
+use Rattle.bucket.specs.Bucket.{is_zero, is_zero_ℤ}
+use Rattle.bucket.specs.Columns.{columns, view}
 use Rattle.bucket.specs.Lists.{elem}
 use Rattle.filter.specs.Filter.{Item, ours, theirs, ours_of, theirs_of}
 use Rattle.filter.specs.Peeling.{all_zero, agrees}
-use Rattle.filter.specs.Steps.{agree, every}
+use Rattle.filter.specs.Steps.{Wide, agree, every}
+use Rattle.filter.proofs.FilledLaws.{wide-less}
+
+-- three columns that are zero in the first n places are n zero buckets
+sorted : (a b c p q r : Bool) → (a && p) && ((b && q) && (c && r)) ≡ (p && (q && r)) && (a && (b && c))
+sorted a b c p q r = grind arith
+
+zero-count : (z : ℤ) → int_eq z (pos 0) ≡ is_zero_ℤ z
+zero-count (pos zero) = refl
+zero-count (pos (suc n)) = grind (arith, nat_tests)
+zero-count (negsuc n) = refl
+
+pub zero-columns : (n : ℕ) (is hs : List ℕ) (cs : List ℤ) → Wide n (columns is hs cs)
+    → list_all (λ x. eqb x 0) (take n is) && (list_all (λ x. eqb x 0) (take n hs) && list_all (λ z. int_eq z (pos 0)) (take n cs))
+    ≡ all_zero (view (columns is hs cs)) n
+unfolding all_zero is_zero view
+zero-columns zero is hs cs w = refl
+zero-columns (suc n) is hs cs w =
+    rw (← add-one n)
+    (ap₂ ◌&&◌ (list_all_more (λ x. eqb x 0) is n 0 w.idsums)
+    (ap₂ ◌&&◌ (list_all_more (λ x. eqb x 0) hs n 0 w.hashsums) (list_all_more (λ z. int_eq z (pos 0)) cs n (pos 0) w.counts))
+    ∙ sorted (list_all (λ x. eqb x 0) (take n is)) (list_all (λ x. eqb x 0) (take n hs)) (list_all (λ z. int_eq z (pos 0)) (take n cs))
+    (eqb (get_or is n 0) 0) (eqb (get_or hs n 0) 0) (int_eq (get_or cs n (pos 0)) (pos 0))
+    ∙ ap₂ (λ (u v : Bool). (eqb (get_or is n 0) 0 && (eqb (get_or hs n 0) 0 && u)) && v) (zero-count (get_or cs n (pos 0)))
+    (zero-columns n is hs cs (wide-less n (suc n) (columns is hs cs) (omega arith) w)))
 
 -- a test of each ID, where the test says whether the table has it
 module _ (t : List ℕ) (p : ℕ → Bool) (is : (a : ℕ) → p a ≡ elem a t) where

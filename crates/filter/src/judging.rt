@@ -41,8 +41,8 @@ pub(crate) fn all_zero(ids: &[u64], hashes: &[u32], counts: &[i64], n: usize) ->
     ensures { result ≡ all_zero (view (columns ids.now hashes.now counts.now)) n }
 {
     ids[..n].iter().all(|id| *id == 0)
-        && hashes[..n].iter().all(|hash| *hash == 0)
-        && counts[..n].iter().all(|count| *count == 0)
+        && (hashes[..n].iter().all(|hash| *hash == 0)
+            && counts[..n].iter().all(|count| *count == 0))
 }
 
 // Whether the table has all IDs of one list and none of the other. Hints are worth making for many IDs only.

@@ -81,7 +81,16 @@ fn read_difference(
     let a = p.ours;
     let b = p.theirs;
     let l = p.looked;
-    let v = crate::judging::judge(table, ids, hashes, counts, &ours[..a], &theirs[..b], p.fine, size);
+    let v = crate::judging::judge(
+        table,
+        ids,
+        hashes,
+        counts,
+        &ours[..a],
+        &theirs[..b],
+        p.fine,
+        size,
+    );
     match v {
         Verdict::Complete => Reading::Complete {
             ours: a,

@@ -1,21 +1,24 @@
 -- A slice laid into columns: its numbers one after another, the columns together, and the call for each kind of message. Assumes nothing.
 use mathlib.Core.Path.{◌≡◌, refl, sym, ap, ap₂, ◌∙◌}
 use mathlib.Core.Bool.{Bool, true, false, ◌&&◌, cond}
-use mathlib.Core.List.{List, [], ◌∷◌}
-use Prim.Native.Nat.{ℕ, ◌+◌, ◌*◌, ◌≤◌, ◌<◌}
+use mathlib.Core.List.{List, [], ◌∷◌, ◌++◌, map}
+use Prim.Native.Nat.{ℕ, ◌+◌, ◌-◌, ◌*◌, ◌≤◌, ◌<◌}
+use native.Mathlib.Nat.{zero-add}
+use native.Mathlib.Numerals.{add-one}
 use native.Mathlib.Omega.{arith}
 use borrow.Author.Tests.{le-leb}
 use lib.Dec.{eqb, leb}
 use lib.IntN.{ℤ}
-use lib.ListN.{length, take, set}
-use lib.Seq.{take_all}
+use lib.ListN.{length, take, get_or, set}
+use lib.Seq.{take_all, take-suc, take-suc-set}
+use borrow.Rule.Slice.PartMut.{put_mid}
+use Rattle.std.proofs.lemmas.List.{map-id}
 use Rattle.bucket.specs.Columns.{Columns, columns}
 use Rattle.bucket.specs.Digits.{unpacked}
 use Rattle.bucket.specs.Lists.{over, part}
 use Rattle.bucket.specs.Packing.{takes, unpack_into}
-use Rattle.bucket.proofs.OverLaws.{Laid, laid-take}
+use Rattle.bucket.proofs.OverLaws.{over-part}
 use Rattle.bucket.proofs.PackedLaws.{unpacked-length}
-use Rattle.bucket.proofs.RoomLaws.{takes-room}
 use Rattle.bucket.proofs.TestLaws.{and_holds, cond-kept, cond-made}
 use Rattle.filter.specs.declared.answers.Refusal.{Refusal}
 use Rattle.filter.specs.declared.answers.Refusal.TheVariants.{None, Room, Malformed}
@@ -30,24 +33,31 @@ use Rattle.message.specs.Reading.{field, parse, content}
 use Rattle.message.proofs.ShapeLaws.{Sliced, sliced-takes}
 use Rattle.message.proofs.WholeLaws.{item_there}
 
--- these numbers laid one after another over the list l₀ from another position on
-module _ (k n at : ℕ) (bs : List ℕ) (from : ℕ) (l₀ : List ℕ) where
-  pub numbers-next : {j : ℕ} {l : List ℕ} (v : ℕ) → Laid from (take j (unpacked (8 * k) n (part at (k * n) bs))) l₀ l
-      → v ≡ field k (at + k * j) bs → at + k * n ≤ length bs → from + n ≤ length l₀ → j < n
-      → Laid from (take (j + 1) (unpacked (8 * k) n (part at (k * n) bs))) l₀ (set l (from + j) v)
-  numbers-next {j} v inv e there room h =
-      let len = unpacked-length (8 * k) n (part at (k * n) bs) in
-      rw (e ∙ sym (item_there k n at bs there j h)) (laid-take (unpacked (8 * k) n (part at (k * n) bs)) 0 inv (omega arith) (omega arith))
+-- n numbers of k bytes each that fill the bytes bs, laid one after another over the list l
+module _ (k n : ℕ) (bs : List ℕ) (all : length bs ≡ k * n) where
+  number-here : (i : ℕ) → i < n → get_or (unpacked (8 * k) n bs) i 0 ≡ field k (k * i) bs
+  number-here i h =
+      ap (λ (l : List ℕ). get_or (unpacked (8 * k) n l) i 0) (sym (take_all (k * n) bs (omega arith)))
+      ∙ item_there k n 0 bs (omega arith) i h ∙ ap (λ (m : ℕ). field k m bs) (zero-add (k * i))
 
-  pub numbers-end : (j : ℕ) {l : List ℕ} → Laid from (take j (unpacked (8 * k) n (part at (k * n) bs))) l₀ l → n ≤ j
-      → l ≡ over from (unpacked (8 * k) n (part at (k * n) bs)) l₀
-  numbers-end j inv h =
-      let xs = unpacked (8 * k) n (part at (k * n) bs) in
-      inv.laid ∙ ap (λ (q : List ℕ). over from q l₀) (take_all j xs (omega (arith, unpacked-length (8 * k) n (part at (k * n) bs))))
+  pub numbers-next : {i : ℕ} (l : List ℕ) (v : ℕ) → take i l ≡ take i (unpacked (8 * k) n bs) → length l ≡ n → i < n → v ≡ field k (k * i) bs
+      → take (i + 1) (set l i v) ≡ take (i + 1) (unpacked (8 * k) n bs)
+  numbers-next {i} l v e len h e' =
+      rw add-one (take-suc-set l i v (omega (arith, len)))
+      ∙ ap₂ (λ (xs : List ℕ) (x : ℕ). xs ++ x ∷ []) e (e' ∙ sym (number-here i h))
+      ∙ sym (rw add-one (take-suc (unpacked (8 * k) n bs) i 0 (omega (arith, unpacked-length (8 * k) n bs))))
 
--- the bytes before the counters
-pub takes-columns : (width n len : ℕ) → takes width n (16 + 12 * n) len ≡ true → (16 + 8 * n ≤ len) × (16 + 8 * n + 4 * n ≤ len)
-takes-columns width n len h = let r = takes-room width n (16 + 12 * n) len h in (omega arith, omega arith)
+  pub numbers-end : {i : ℕ} (l : List ℕ) → take i l ≡ take i (unpacked (8 * k) n bs) → length l ≡ n → n ≤ i → l ≡ unpacked (8 * k) n bs
+  numbers-end {i} l e len h =
+      sym (take_all i l (omega (arith, len))) ∙ e ∙ take_all i (unpacked (8 * k) n bs) (omega (arith, unpacked-length (8 * k) n bs))
+
+-- numbers laid into the n places of a column from a position on, which were lent alone
+pub laid-part : (from n : ℕ) (xs us l : List ℕ) → from + n ≤ length l → map (λ x. x) xs ≡ us → length us ≡ n → put_mid from (from + n - from) l xs ≡ over from us l
+laid-part from n xs us l room e len =
+    over-part from (from + n) xs l (ap (λ (k : ℕ). from + k) (ap length same ∙ len)) ∙ ap (λ (q : List ℕ). over from q l) same
+  where
+    same : xs ≡ us
+    same = sym (map-id xs) ∙ e
 
 lay_either : (t : Bool) (x c : Columns) → cond t (lay None x) (lay Room c) ≡ lay (cond t None Room) (cond (eqb (refusal_number (cond t None Room)) 0) x c)
 lay_either true x c = refl

@@ -1,16 +1,14 @@
 -- The width of a filter's counters: the smallest that holds them all. Assumes nothing.
 use mathlib.Core.Path.{◌≡◌, refl, sym, ap, ◌∙◌}
 use mathlib.Core.Bool.{Bool, true, ◌&&◌, and-eq-true_iff, true≢false}
-use mathlib.Core.List.{List, [], ◌∷◌, ◌++◌, map-append}
-use Prim.Native.Nat.{ℕ, suc, ◌+◌, ◌^◌, ◌≤◌, ◌<◌, max}
-use native.Mathlib.Numerals.{add-one}
+use mathlib.Core.List.{List, [], ◌∷◌}
+use Prim.Native.Nat.{ℕ, suc, ◌^◌, ◌≤◌, ◌<◌, max}
 use native.Mathlib.Omega.{arith}
 use borrow.Author.Tests.{lt-ltb}
 use lib.Dec.{ltb}
 use lib.IntN.{ℤ, pos, negsuc}
-use lib.ListN.{length, take, get_or}
+use lib.ListN.{take}
 use lib.Pow.{pow_pos}
-use lib.Seq.{take-suc}
 use Rattle.std.specs.List.{fold}
 use Rattle.bucket.specs.Counts.{width_of}
 use Rattle.bucket.specs.Digits.{Below}

@@ -1,12 +1,12 @@
 // A slice of a filter laid into three lent columns.
-ghost use Rattle.std.specs.Prelude.{◌≡◌, true, ◌+◌, ◌*◌, ◌≤◌, length};
+ghost use Rattle.std.specs.Prelude.{◌≡◌, true, map, ◌+◌, ◌*◌, ◌≤◌, length};
 ghost use Rattle.bucket.specs.Columns.{columns};
 ghost use Rattle.bucket.specs.Digits.{unpacked};
-ghost use Rattle.bucket.specs.Lists.{over, part};
 ghost use Rattle.bucket.specs.Packing.{takes};
 ghost use Rattle.message.specs.Laying.{lay, lay_call};
 ghost use Rattle.message.specs.Putting.{lay_buckets};
 
+use crate::copying::Number;
 use crate::kinds::Message;
 use filter::answers::Refusal;
 
@@ -54,32 +54,19 @@ fn lay_slice(
         return Refusal::Room;
     }
     let from = offset as usize;
-    lay_ids(s, 16, n, ids, from);
-    lay_hashes(s, 16 + 8 * n, n, hashes, from);
+    let to = from + n;
+    lay_numbers(&s[16..16 + 8 * n], &mut ids[from..to]);
+    lay_numbers(&s[16 + 8 * n..16 + 12 * n], &mut hashes[from..to]);
     bucket::packing::unpack(s, 16 + 12 * n, n, width, counts, from);
     Refusal::None
 }
 
-// n numbers of eight bytes.
-fn lay_ids(s: &[u8], at: usize, n: usize, ids: &mut [u64], from: usize)
-    requires { (at + 8 * n ≤ length s.now) × (from + n ≤ length ids.old) }
-    ensures { ids.new ≡ over from (unpacked 64 n (part at (8 * n) s.now)) ids.old }
+// The numbers that stand in the bytes, one behind the other.
+fn lay_numbers<T: Number>(s: &[u8], xs: &mut [T])
+    requires { length s.now ≡ T.BYTES * length xs.old }
+    ensures { map T.value xs.new ≡ unpacked (8 * T.BYTES) (length xs.old) s.now }
 {
-    let mut j: usize = 0;
-    while j < n {
-        ids[from + j] = bucket::bytes::number_at(s, at + 8 * j, 8);
-        j += 1;
-    }
-}
-
-// n numbers of four bytes.
-fn lay_hashes(s: &[u8], at: usize, n: usize, hashes: &mut [u32], from: usize)
-    requires { (at + 4 * n ≤ length s.now) × (from + n ≤ length hashes.old) }
-    ensures { hashes.new ≡ over from (unpacked 32 n (part at (4 * n) s.now)) hashes.old }
-{
-    let mut j: usize = 0;
-    while j < n {
-        hashes[from + j] = crate::fields::word_at(s, at + 4 * j, 4);
-        j += 1;
+    for (j, x) in xs.iter_mut().enumerate() {
+        *x = T::of(bucket::bytes::number_at(s, T::BYTES * j, T::BYTES));
     }
 }

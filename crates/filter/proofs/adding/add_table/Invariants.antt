@@ -10,4 +10,3 @@ use Rattle.filter.proofs.adding.add_table.Given as goal
 
 abbrev pub invariant-loop-e : goal.invariant-loop-e
 invariant-loop-e l = Gathered (layered l.top l.k l.size l.salt) (ids_of first_eight l.table) (columns l.initial.ids l.initial.hashes l.initial.counts) (columns l.ids l.hashes l.counts) l.e
-

@@ -9,4 +9,3 @@ use Rattle.filter.proofs.adding.add_to_places.Given as goal
 
 abbrev pub invariant-loop-b : goal.invariant-loop-b
 invariant-loop-b l = Added l.k l.size l.h (bucket l.x l.h (pos 1)) (columns l.initial.ids l.initial.hashes l.initial.counts) (columns l.ids l.hashes l.counts) l.b-index
-

@@ -1,5 +1,4 @@
 -- `clearing::clear_columns` meets its contract: zeros in the first n places of the three columns are n zero buckets. Assumes nothing.
-use native.Mathlib.Omega.{arith}
 use lib.Seq.{length-take-le}
 use Rattle.bucket.specs.Columns.{columns}
 use Rattle.filter.proofs.FilledLaws.{filled_zeros}

@@ -1,10 +1,24 @@
 -- `reading::read_difference` meets its contract: the peeling is the definition's, so the verdict is, and each verdict leaves what the definition
 -- says. Assumes nothing.
+use mathlib.Core.Path.{sym}
+use lib.Seq.{length-take-le}
 use Rattle.filter.proofs.CallLaws.{judge_ready, clear-again, read-complete, read-stuck, read_false_lem}
 use Rattle.filter.proofs.reading.read_difference.Goals as goal
 
+pub slice_bounds-judge-end : goal.slice_bounds-judge-end
+slice_bounds-judge-end c = (judge_ready c.requires c.peel_difference-p.ensures.0).2
+
+pub slice_bounds-judge-end-2 : goal.slice_bounds-judge-end-2
+slice_bounds-judge-end-2 c = sym (length-take-le _ _ (judge_ready c.requires c.peel_difference-p.ensures.0).2)
+
+pub slice_bounds-judge-end-3 : goal.slice_bounds-judge-end-3
+slice_bounds-judge-end-3 c = (judge_ready c.requires c.peel_difference-p.ensures.0).3
+
+pub slice_bounds-judge-end-4 : goal.slice_bounds-judge-end-4
+slice_bounds-judge-end-4 c = sym (length-take-le _ _ (judge_ready c.requires c.peel_difference-p.ensures.0).3)
+
 pub judge-v-requires : goal.judge-v-requires
-judge-v-requires c = judge_ready c.requires c.peel_difference-p.ensures.0
+judge-v-requires c = let r = judge_ready c.requires c.peel_difference-p.ensures.0 in (r.0, r.1)
 
 pub clear_all-requires : goal.clear_all-requires
 clear_all-requires c = clear-again c.requires c.peel_difference-p.ensures.0

@@ -7,7 +7,7 @@ use lib.ListN.{get_or}
 use Rattle.std.proofs.Common.{rules}
 use Rattle.filter.specs.Table.{hashes_of, position}
 use Rattle.filter.proofs.BisectLaws.{position_asked, position_zero}
-use Rattle.filter.proofs.TableLaws.{hashes-length, hash-past}
+use Rattle.filter.proofs.TableLaws.{hash-past}
 use Rattle.filter.proofs.table.hash_position.Goals as goal
 
 pub returns-then-hash-lt64 : goal.returns-then-hash-lt64

@@ -22,9 +22,9 @@ returns-then-at-count c = let t = c.args.table.now in
     let at = c.hash_position-at in
     let inside : at.result < length t / 64 = omega (arith, hashes-length t) in
     let same =
-        same-joined (part (at.result * 64) 64 t) (part 0 64 h)
-        (part_length (at.result * 64) t 64 (omega arith) ∙ sym (part_length 0 h 64 (omega arith)))
-        (part-below (at.result * 64) 64 t (λ n. (c.type_inv.table n).fits)) (part-below 0 64 h (λ n. (c.type_inv.hash n).fits)) in
+    same-joined (part (at.result * 64) 64 t) (part 0 64 h)
+    (part_length (at.result * 64) t 64 (omega arith) ∙ sym (part_length 0 h 64 (omega arith)))
+    (part-below (at.result * 64) 64 t (λ n. (c.type_inv.table n).fits)) (part-below 0 64 h (λ n. (c.type_inv.hash n).fits)) in
     let held = holds-there (hashes_of t) (get_or (hashes_of h) 0 0) at.ensures (omega arith) in
     let long = le-leb 64 (length h) (omega arith) in
     rw (c.eq.ensures, c.bytes_of.ensures, c.bytes_of-then-at-count.ensures, same, ← hash-bytes t at.result inside, ← hash-bytes h 0 (omega arith), held, long)

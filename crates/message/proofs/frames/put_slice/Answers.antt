@@ -17,11 +17,11 @@ returns c = let a = c.args in
     let i = rw (add-sub_cancel_left, slice-ids s a.at cols a.out.now r.put r.count, head.ensures.next) at ids.ensures.next in
     let h = rw (add-sub_cancel_left, slice-hashes s a.at cols a.out.now r.put r.count, i) at hashes.ensures.next in
     let writes = slice_writes s a.at cols a.out.now r.put r.count
-        (part_between s.offset s.count a.counts.now)
-        (hashes.auto.out ∙ ids.auto.out ∙ head.auto.out)
-        head.ensures.put
-        (rw (add-sub_cancel_left, map-id, head.ensures.next) at ids.ensures.put)
-        (rw (add-sub_cancel_left, map-id, i) at hashes.ensures.put)
-        (omega arith)
-        c.pack.ensures in
+    (part_between s.offset s.count a.counts.now)
+    (hashes.auto.out ∙ ids.auto.out ∙ head.auto.out)
+    head.ensures.put
+    (rw (add-sub_cancel_left, map-id, head.ensures.next) at ids.ensures.put)
+    (rw (add-sub_cancel_left, map-id, i) at hashes.ensures.put)
+    (omega arith)
+    c.pack.ensures in
     record { next = writes.0; put = writes.1 }

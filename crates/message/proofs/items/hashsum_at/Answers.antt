@@ -1,7 +1,6 @@
 -- `items::hashsum_at` meets its contract: the HASHSUMs are numbers of 4 bytes behind the IDSUMs. Assumes nothing.
 use Rattle.std.proofs.Common.{◌+◌, ◌*◌, ◌∙◌}
 use borrow.Author.Tests.{le-leb, lt-leb, le-ltb, lt-ltb}
-use Rattle.bucket.proofs.TestLaws.{and_fails}
 use Rattle.message.specs.Items.{hashsum_at}
 use Rattle.message.proofs.ReachLaws.{item-number}
 use Rattle.message.proofs.items.hashsum_at.Goals as goal

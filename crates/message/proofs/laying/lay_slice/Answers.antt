@@ -1,13 +1,15 @@
 -- `message::laying::lay_slice` meets its contract: where each column has room, the three are laid one by one. Assumes nothing.
-use Prim.Native.Nat.{◌+◌}
+use Prim.Native.Nat.{◌+◌, ◌-◌, ◌*◌}
+use native.Mathlib.Nat.{add-sub_cancel_left}
 use native.Mathlib.Omega.{arith}
-use lib.ListN.{length}
 use Rattle.bucket.specs.Columns.{columns}
+use Rattle.bucket.proofs.OverLaws.{part_length}
+use Rattle.bucket.proofs.PackedLaws.{unpacked-length}
 use Rattle.bucket.proofs.TestLaws.{test_refused, test_granted}
 use Rattle.filter.specs.Steps.{Wide}
 use Rattle.filter.proofs.FilledLaws.{wide_of}
-use Rattle.message.proofs.LayLaws.{takes-columns, buckets_refused, buckets_laid_lem}
-use Rattle.std.proofs.Common.{ap}
+use Rattle.message.proofs.LayLaws.{laid-part, buckets_refused, buckets_laid_lem}
+use Rattle.std.proofs.Common.{◌≡◌, ap}
 use mathlib.Core.Bool.{not}
 use Rattle.message.proofs.laying.lay_slice.Goals as goal
 use Rattle.message.proofs.laying.lay_slice.Goals.{Else-not-has_room}
@@ -21,16 +23,22 @@ pub returns-then-not-has_room : goal.returns-then-not-has_room
 returns-then-not-has_room c = let a = c.args in
     buckets_refused a.offset a.width a.n a.s.now (columns a.ids.now a.hashes.now a.counts.now) (test_refused c.has_room.ensures (ap not c.if-not-has_room.true))
 
-pub lay_ids-requires : goal.lay_ids-requires
-lay_ids-requires c = let a = c.args in
-    (omega (arith, (takes-columns a.width a.n (length a.s.now) c.requires.2).0), omega (arith, (wide (goal.at.lay_ids-requires c).Else-not-has_room).idsums))
+pub slice_bounds-lay_numbers-end-2 : goal.slice_bounds-lay_numbers-end-2
+slice_bounds-lay_numbers-end-2 c = omega (arith, (wide (goal.at.slice_bounds-lay_numbers-end-2 c).Else-not-has_room).idsums)
 
-pub lay_hashes-requires : goal.lay_hashes-requires
-lay_hashes-requires c = let a = c.args in
-    (omega (arith, (takes-columns a.width a.n (length a.s.now) c.requires.2).1), omega (arith, (wide (goal.at.lay_hashes-requires c).Else-not-has_room).hashsums))
+pub slice_bounds-lay_numbers-end-4 : goal.slice_bounds-lay_numbers-end-4
+slice_bounds-lay_numbers-end-4 c = omega (arith, (wide (goal.at.slice_bounds-lay_numbers-end-4 c).Else-not-has_room).hashsums)
 
 pub returns : goal.returns
 returns c = let a = c.args in
+    let room = wide (goal.at.returns c).Else-not-has_room in
+    let first : 16 + 8 * a.n - 16 ≡ 8 * a.n = omega arith in
+    let second : 16 + 12 * a.n - (16 + 8 * a.n) ≡ 4 * a.n = omega arith in
+    let ids = rw (add-sub_cancel_left a.offset a.n, part_length a.offset a.ids.now a.n room.idsums, first) at c.lay_numbers.ensures in
+    let hashes = rw (add-sub_cancel_left a.offset a.n, part_length a.offset a.hashes.now a.n room.hashsums, second) at c.lay_numbers-2.ensures in
     buckets_laid_lem a.offset a.width a.n a.s.now (columns a.ids.now a.hashes.now a.counts.now)
     (test_granted c.has_room.ensures (ap not c.if-not-has_room.false))
-    c.requires.2 c.lay_ids.ensures c.lay_hashes.ensures c.unpack.ensures.1
+    c.requires.2
+    (laid-part a.offset a.n _ _ a.ids.now room.idsums ids (unpacked-length 64 a.n _))
+    (laid-part a.offset a.n _ _ a.hashes.now room.hashsums hashes (unpacked-length 32 a.n _))
+    c.unpack.ensures.1

@@ -1,4 +1,4 @@
-use Rattle.std.proofs.Common.{ap, ◌∙◌, arith, length, min, ℕ}
+use Rattle.std.proofs.Common.{◌∙◌, arith}
 use Rattle.message.proofs.CutLaws.{cutting_next, cutting_end}
 use Rattle.message.proofs.WriteLaws.{inquiry-length}
 use Rattle.message.proofs.lists.put_inquiries.Goals as goal

@@ -6,8 +6,6 @@ use Prim.Native.Nat.{ℕ, ◌+◌, ◌≤◌}
 use native.Mathlib.Omega.{arith}
 use borrow.Author.Tests.{le-leb, lt-leb}
 use lib.ListN.{length}
-use lib.Seq.{take_all}
-use Rattle.bucket.specs.Lists.{over}
 use Rattle.bucket.proofs.TestLaws.{test_refused, test_granted}
 use Rattle.message.specs.Layout.{element, layout, framed}
 use Rattle.message.specs.Writing.{layouts, wrote, element_call}
