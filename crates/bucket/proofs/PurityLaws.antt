@@ -4,6 +4,7 @@ use mathlib.Core.Bool.{Bool, true, ◌&&◌, false≢true}
 use Prim.Native.Nat.{ℕ, zero, suc}
 use lib.Bits.{bit_xor}
 use lib.Dec.{eqb}
+use mir.ValLaws.{to_z-of_z}
 use lib.IntN.{ℤ, pos, negsuc, neg_ℤ, ◌+ℤ◌}
 use borrow.Author.Tests.{eq-eqb}
 use Rattle.bucket.specs.Crc.{crc_of, crc_tables, crc_by, next_by}
@@ -39,3 +40,6 @@ three_look_pure k size i a b c side h =
     one (pos (suc (suc n))) e = absurd (false≢true e)
     one (negsuc zero) e = refl
     one (negsuc (suc n)) e = absurd (false≢true e)
+
+-- a count that is passed on as its bits
+pub ruleset as_passed = (to_z-of_z)

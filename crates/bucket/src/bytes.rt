@@ -20,6 +20,7 @@ pub fn number_at(s: &[u8], at: usize, k: usize) -> u64
 }
 
 // The k low bytes of x from a position on. Nothing is written where k is above eight or the bytes do not fit.
+#[tactic(auto, unfolding(crate::specs::Digits::put_into))]
 pub fn put_number(s: &mut [u8], at: usize, k: usize, x: u64)
     ensures { s.new ≡ put_into at k x s.old }
 {

@@ -21,6 +21,7 @@ pub fn fits(counts: &[i64], w: u32) -> bool
 
 // The counts packed at width w from a position on; answers the position behind them. Nothing is written, and the position
 // is the same, where the width is not 1 to 32, a count does not fit it, they are more than 65,536, or the bytes do not fit.
+#[tactic(auto, unfolding(crate::specs::Packing::pack_into, crate::specs::Packing::pack_end))]
 pub fn pack(counts: &[i64], w: u32, out: &mut [u8], at: usize) -> usize
     ensures { (result ≡ pack_end w counts.now at out.old)
         × (out.new ≡ pack_into w counts.now at out.old) }
@@ -34,6 +35,7 @@ pub fn pack(counts: &[i64], w: u32, out: &mut [u8], at: usize) -> usize
 }
 
 // Counter i of n that stand packed at width w from a position on; 0 where n such counters do not, or i is past them.
+#[tactic(auto, unfolding(crate::specs::Packing::counter_at))]
 pub fn counter_at(s: &[u8], at: usize, n: usize, w: u32, i: usize) -> u32
     ensures { result ≡ counter_at w n at s.now i }
 {
@@ -44,6 +46,7 @@ pub fn counter_at(s: &[u8], at: usize, n: usize, w: u32, i: usize) -> u32
 }
 
 // Whether n counters stand packed at width w from a position on, with zeros in the spare bits behind them.
+#[tactic(auto, unfolding(crate::specs::Packing::is_bare))]
 pub fn spare_is_zero(s: &[u8], at: usize, n: usize, w: u32) -> bool
     ensures { result ≡ is_bare w n at s.now }
 {
@@ -55,6 +58,7 @@ pub fn spare_is_zero(s: &[u8], at: usize, n: usize, w: u32) -> bool
 
 // The n counters that stand packed from a position on, laid into a column from another. Answers whether they were:
 // otherwise, where n such counters or the room for them are not there, nothing is written.
+#[tactic(auto, unfolding(crate::specs::Packing::unpack_into))]
 pub fn unpack(s: &[u8], at: usize, n: usize, w: u32, counts: &mut [i64], from: usize) -> bool
     ensures { (result ≡ unpacks w n at s.now from counts.old)
         × (counts.new ≡ unpack_into w n at s.now from counts.old) }

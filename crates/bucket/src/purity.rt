@@ -10,6 +10,7 @@ use crate::places::places;
 
 // Whether bucket i of a filter of a size, with k places an element (at most four), looks pure:
 // its count is 1 or −1, its HASHSUM is the CRC-32 of its IDSUM, and it is one of the places of that IDSUM.
+#[tactic(auto, using(crate::proofs::PurityLaws::as_passed), unfolding(crate::specs::Bucket::looks_pure_by))]
 pub fn looks_pure(
     tab: &[u32; 2048],
     idsum: u64,

@@ -8,10 +8,6 @@ use Rattle.bucket.proofs.OverLaws.{over-part}
 use Rattle.std.proofs.lemmas.Bool.Decides.{nat_tests}
 use Rattle.bucket.proofs.bytes.put_number.Goals as goal
 
-pub returns-then-k-gt8 : goal.returns-then-k-gt8
-unfolding put_into
-returns-then-k-gt8 c = grind (arith, nat_tests)
-
 pub returns : goal.returns
 unfolding put_into
 returns c = let a = c.args in

@@ -5,14 +5,6 @@ use Rattle.bucket.specs.Packing.{counters_at, counter_at}
 use Rattle.bucket.proofs.ReadLaws.{none-past}
 use Rattle.bucket.proofs.packing.counter_at.Goals as goal
 
-pub returns-in_default : goal.returns-in_default
-unfolding counter_at
-returns-in_default c = grind (arith, nat_tests)
-
-pub returns-then-i-n : goal.returns-then-i-n
-unfolding counter_at
-returns-then-i-n c = grind (arith, nat_tests)
-
 pub returns-else-i-n : goal.returns-else-i-n
 unfolding counter_at
 returns-else-i-n c = let a = c.args in

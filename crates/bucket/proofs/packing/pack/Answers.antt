@@ -8,10 +8,6 @@ use Rattle.bucket.proofs.OverLaws.{over-part}
 use Rattle.bucket.proofs.PackedLaws.{packed-length}
 use Rattle.bucket.proofs.packing.pack.Goals as goal
 
-pub returns-then-not-takes_room : goal.returns-then-not-takes_room
-unfolding pack_into pack_end
-returns-then-not-takes_room c = (grind (arith, nat_tests), grind (arith, nat_tests))
-
 pub returns : goal.returns
 unfolding pack_into pack_end
 returns c = let a = c.args in

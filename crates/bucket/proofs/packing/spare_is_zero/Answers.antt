@@ -12,10 +12,6 @@ use Rattle.bucket.proofs.ReadLaws.{spare-tested, bare-here}
 use Rattle.bucket.proofs.RoomLaws.{takes-room}
 use Rattle.bucket.proofs.packing.spare_is_zero.Goals as goal
 
-pub returns-in_default : goal.returns-in_default
-unfolding is_bare
-returns-in_default c = grind (arith, nat_tests)
-
 pub returns : goal.returns
 returns c = let a = c.args in
     let there = c.in-Some.ensures in

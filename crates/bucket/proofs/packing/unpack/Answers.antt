@@ -8,14 +8,6 @@ use Rattle.bucket.proofs.NumberLaws.{counts-length}
 use Rattle.bucket.proofs.OverLaws.{over-part}
 use Rattle.bucket.proofs.packing.unpack.Goals as goal
 
-pub returns-in_default : goal.returns-in_default
-unfolding unpack_into
-returns-in_default c = (grind (arith, nat_tests), grind (arith, nat_tests))
-
-pub returns-then-counts-n : goal.returns-then-counts-n
-unfolding unpack_into
-returns-then-counts-n c = (grind (arith, nat_tests), grind (arith, nat_tests))
-
 pub returns : goal.returns
 unfolding unpack_into
 returns c = let a = c.args in
