@@ -13,9 +13,7 @@ use lib.Seq.{get_or-set_same, get_or-set_other, get_or-append_seam}
 use borrow.Author.Tests.{eqb-true, eqb-false, eq-eqb, ne_eqb, ltb-true, ltb-false}
 use Rattle.bucket.specs.Lists.{elem}
 use Rattle.bucket.proofs.ListLaws.{elem_at, at_index}
-use Rattle.filter.specs.declared.repeats.Place.{Place}
-use Rattle.filter.specs.declared.repeats.Place.TheVariants.{Noted, Head, Link}
-use Rattle.filter.specs.Repeats.{Live, child, Leads, here, next, Led, Spot, below, Forest, Ends, Placed}
+use Rattle.filter.specs.Repeats.{Live, child, Leads, here, next, Led, Spot, below, Forest, Ends}
 
 -- ---- the numbers noted
 
@@ -262,54 +260,40 @@ module _ {heads links seen : List ℕ} (n v : ℕ) (many : length seen ≡ n) (r
             let (w, there) = c.stands j (omega arith) in
             rw (old j less) (w, led-kept there)
 
-  -- by what the search ended at
-  module _ {p : Place} (found : Placed v heads links seen p) where
-    pub noted : p ≡ Noted → elem v seen ≡ true
-    unfolding Placed
-    noted e = subst (Placed v heads links seen) e found
+  -- where the search ended
+  pub grown_head : (Live heads seen (v % 4096) → ⊥) → Forest (set heads (v % 4096) (n + 1)) (cleared n links) (seen ++ v ∷ [])
+  grown_head dead =
+      let h : v % 4096 < length heads = omega (arith, c.heads-len) in
+      let led = get_or-set_same heads (v % 4096) (n + 1) 0 h in
+      let back : n + 1 - 1 ≡ n = omega arith in
+      grown (set heads (v % 4096) (n + 1)) links
+      (λ q l. get_or-set_other heads (v % 4096) q (n + 1) 0 (λ f. dead (subst (Live heads seen) f l))) (λ i _. refl) (root (v % 4096))
+      (length-set heads (v % 4096) (n + 1) ∙ c.heads-len) c.links-len
+      (rw (led, back) (spot_new c.spots n (root (v % 4096)))) (linked_old (root (v % 4096))) (
+        v / 4096,
+        record {
+          live = record { some = rw led (omega arith); within = rw (led, more) (omega arith); mine = rw (led, back, new) refl };
+          leads = rw (led, back) here;
+        },
+      )
 
-    pub head : p ≡ Head → (elem v seen ≡ false) × (Live heads seen (v % 4096) → ⊥)
-    unfolding Placed
-    head e = subst (Placed v heads links seen) e found
-
-    pub link : {at : ℕ} → p ≡ Link at → (elem v seen ≡ false) × Ends v heads links seen at
-    unfolding Placed
-    link e = subst (Placed v heads links seen) e found
-
-    pub grown_head : p ≡ Head → Forest (set heads (v % 4096) (n + 1)) (cleared n links) (seen ++ v ∷ [])
-    grown_head e =
-        let h : v % 4096 < length heads = omega (arith, c.heads-len) in
-        let led = get_or-set_same heads (v % 4096) (n + 1) 0 h in
-        let back : n + 1 - 1 ≡ n = omega arith in
-        grown (set heads (v % 4096) (n + 1)) links
-        (λ q l. get_or-set_other heads (v % 4096) q (n + 1) 0 (λ f. (head e).1 (subst (Live heads seen) f l))) (λ i _. refl) (root (v % 4096))
-        (length-set heads (v % 4096) (n + 1) ∙ c.heads-len) c.links-len
-        (rw (led, back) (spot_new c.spots n (root (v % 4096)))) (linked_old (root (v % 4096))) (
-          v / 4096,
-          record {
-            live = record { some = rw led (omega arith); within = rw (led, more) (omega arith); mine = rw (led, back, new) refl };
-            leads = rw (led, back) here;
-          },
-        )
-
-    pub grown_link : {at : ℕ} → p ≡ Link at → Forest heads (cleared n (set links at (n + 1))) (seen ++ v ∷ [])
-    grown_link {at} e =
-        let s = (link e).1 in
-        let inside : at < length links = omega (arith, s.inside, c.links-len) in
-        let kept : (i : ℕ) → 0 < get_or links i 0 → get_or (set links at (n + 1)) i 0 ≡ get_or links i 0 =
-        λ i l. get_or-set_other links at i (n + 1) 0 (λ f. omega (arith, ap (λ (x : ℕ). get_or links x 0) f, s.empty)) in
-        let led : child (cleared n (set links at (n + 1))) s.from s.rest ≡ n + 1 =
-        rw (← s.place) (cleared_old n at (set links at (n + 1)) (omega (arith, s.inside)) ∙ get_or-set_same links at (n + 1) 0 inside) in
-        let came = led-kept heads (set links at (n + 1)) (λ q _. refl) kept s.led in
-        let spot = below (c.spots (at / 2)) (at % 2) in
-        grown heads (set links at (n + 1)) (λ q _. refl) kept spot
-        c.heads-len (length-set links at (n + 1) ∙ c.links-len)
-        (spot_old c.spots n spot (get_or heads (v % 4096) 0 - 1) (omega (arith, s.led.live.some, s.led.live.within)) ∙ live-root v c s.led.live)
-        (λ i l. set-each (Linked spot i) links at i (n + 1) inside (λ f. rw f (linked_new at (omega (arith, s.inside)))) (λ _. linked_old spot i l)) (
-          s.rest / 2,
-          record {
-            live = came.live;
-            leads = subst (λ (x : ℕ). Leads (cleared n (set links at (n + 1))) x (s.rest / 2) (get_or heads (v % 4096) 0 - 1) (v / 4096))
-                (omega (arith, led)) (leads_last came.leads (omega (arith, led)));
-          },
-        )
+  pub grown_link : {at : ℕ} → Ends v heads links seen at → Forest heads (cleared n (set links at (n + 1))) (seen ++ v ∷ [])
+  grown_link {at} s =
+      let inside : at < length links = omega (arith, s.inside, c.links-len) in
+      let kept : (i : ℕ) → 0 < get_or links i 0 → get_or (set links at (n + 1)) i 0 ≡ get_or links i 0 =
+      λ i l. get_or-set_other links at i (n + 1) 0 (λ f. omega (arith, ap (λ (x : ℕ). get_or links x 0) f, s.empty)) in
+      let led : child (cleared n (set links at (n + 1))) s.from s.rest ≡ n + 1 =
+      rw (← s.place) (cleared_old n at (set links at (n + 1)) (omega (arith, s.inside)) ∙ get_or-set_same links at (n + 1) 0 inside) in
+      let came = led-kept heads (set links at (n + 1)) (λ q _. refl) kept s.led in
+      let spot = below (c.spots (at / 2)) (at % 2) in
+      grown heads (set links at (n + 1)) (λ q _. refl) kept spot
+      c.heads-len (length-set links at (n + 1) ∙ c.links-len)
+      (spot_old c.spots n spot (get_or heads (v % 4096) 0 - 1) (omega (arith, s.led.live.some, s.led.live.within)) ∙ live-root v c s.led.live)
+      (λ i l. set-each (Linked spot i) links at i (n + 1) inside (λ f. rw f (linked_new at (omega (arith, s.inside)))) (λ _. linked_old spot i l)) (
+        s.rest / 2,
+        record {
+          live = came.live;
+          leads = subst (λ (x : ℕ). Leads (cleared n (set links at (n + 1))) x (s.rest / 2) (get_or heads (v % 4096) 0 - 1) (v / 4096))
+              (omega (arith, led)) (leads_last came.leads (omega (arith, led)));
+        },
+      )

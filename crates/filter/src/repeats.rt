@@ -1,6 +1,6 @@
 // IDs noted as they are listed: was one noted already? Each value of the low 12 bits has a tree that branches by the further bits, the lower
 // first. So a search looks at 53 numbers at most, whatever the far end sends; where it is honest, at one or two.
-ghost use Rattle.std.specs.Prelude.{◌≡◌, not, cond, [], ◌∷◌, ◌++◌, ◌<◌, ◌%◌, length};
+ghost use Rattle.std.specs.Prelude.{◌≡◌, not, cond, [], ◌∷◌, ◌++◌, ◌<◌, ◌≤◌, ◌%◌, length};
 ghost use Rattle.bucket.specs.Lists.{elem};
 ghost use Rattle.filter.specs.Repeats.{Forest, Root, Placed};
 
@@ -87,7 +87,8 @@ enum Place {
 
 // One walk both finds a repeat and tells where a new number goes.
 fn find(heads: &[u16; 4096], links: &[u16; 8192], seen: &[u64], v: u64) -> Place
-    requires { Forest heads.now links.now seen.now }
+    requires few { length seen.now ≤ 4096 }
+    requires forest { Forest heads.now links.now seen.now }
     ensures { Placed v heads.now links.now seen.now result }
 {
     let Some(mut k) = root(heads, seen, v) else {
