@@ -1,6 +1,6 @@
 // Peeling: the lowest bucket that looks pure is listed and taken out of its places, again and again. The buckets that look pure
 // are kept as a set, changed only where a peel touches, and repeated IDs are found in trees.
-ghost use Rattle.std.specs.Prelude.{◌≡◌, List, ◌∷◌, ℕ, ◌<◌, ◌≤◌, ◌^◌, nat_abs, length};
+ghost use Rattle.std.specs.Prelude.{◌≡◌, List, ◌∷◌, ℕ, ◌<◌, ◌≤◌, ◌^◌, nat_abs, length, IsTrue};
 ghost use Rattle.bucket.specs.Bucket.{bucket, neg, ◌⊕◌, is_one};
 ghost use Rattle.bucket.specs.Columns.{columns, view, place};
 ghost use Rattle.bucket.specs.Crc.{crc_tables};
@@ -42,12 +42,16 @@ pub(crate) fn peel(
     salt: u32,
     k: usize,
 ) -> Peeled
-    requires { (tab.now ≡ crc_tables) × Sound size k salt × Wide size (columns ids.old hashes.old counts.old)
-        × (size ≤ length ours.old) × (size ≤ length theirs.old) × Small size (2 ^ 34) (columns ids.old hashes.old counts.old) }
-    ensures { Peels size (reading (rule k size salt) (view (columns ids.old hashes.old counts.old)))
+    requires tables { tab.now ≡ crc_tables }
+    requires sound { Sound size k salt }
+    requires wide { Wide size (columns ids.old hashes.old counts.old) }
+    requires small { Small size (2 ^ 34) (columns ids.old hashes.old counts.old) }
+    requires ours_room { size ≤ length ours.old }
+    requires theirs_room { size ≤ length theirs.old }
+    ensures peels { Peels size (reading (rule k size salt) (view (columns ids.old hashes.old counts.old)))
         (columns ids.old hashes.old counts.old) ours.old theirs.old result.listed
-        (columns ids.new hashes.new counts.new) ours.new theirs.new
-        × (result.looked ≡ looked (rule k size salt) (view (columns ids.old hashes.old counts.old))) }
+        (columns ids.new hashes.new counts.new) ours.new theirs.new }
+    ensures looked { result.looked ≡ looked (rule k size salt) (view (columns ids.old hashes.old counts.old)) }
 {
     let n = size as usize;
     let mut shown = survey(tab, ids, hashes, counts, size, k);
@@ -87,7 +91,9 @@ fn survey(
     size: u32,
     k: usize,
 ) -> Marks
-    requires { (tab.now ≡ crc_tables) × Sound size k 0 × Wide size (columns ids.now hashes.now counts.now) }
+    requires tables { tab.now ≡ crc_tables }
+    requires sound { Sound size k 0 }
+    requires wide { Wide size (columns ids.now hashes.now counts.now) }
     ensures { result ≡ marks (shows (rule k size 0) (view (columns ids.now hashes.now counts.now))) }
 {
     let mut shown = Marks::new();
@@ -112,13 +118,16 @@ fn take_out(
     size: u32,
     k: usize,
 )
-    requires { (tab.now ≡ crc_tables) × Sound size k 0 × Wide size (columns ids.old hashes.old counts.old)
-        × (nat_abs s ≤ 1) × Small size (2 ^ 60) (columns ids.old hashes.old counts.old)
-        × (shown.old ≡ marks (shows (rule k size 0) (view (columns ids.old hashes.old counts.old)))) }
-    ensures { (columns ids.new hashes.new counts.new
+    requires tables { tab.now ≡ crc_tables }
+    requires sound { Sound size k 0 }
+    requires wide { Wide size (columns ids.old hashes.old counts.old) }
+    requires small { Small size (2 ^ 60) (columns ids.old hashes.old counts.old) }
+    requires one { nat_abs s ≤ 1 }
+    requires shown { shown.old ≡ marks (shows (rule k size 0) (view (columns ids.old hashes.old counts.old))) }
+    ensures taken { columns ids.new hashes.new counts.new
         ≡ filled size (spread (places k size h) (neg (bucket x h s)) (view (columns ids.old hashes.old counts.old)))
-        (columns ids.old hashes.old counts.old))
-        × (shown.new ≡ marks (shows (rule k size 0) (view (columns ids.new hashes.new counts.new)))) }
+        (columns ids.old hashes.old counts.old) }
+    ensures shown { shown.new ≡ marks (shows (rule k size 0) (view (columns ids.new hashes.new counts.new))) }
 {
     let p = bucket::places::places(tab, h, size, k);
     for b in &p[..k] {
@@ -140,13 +149,17 @@ fn settle(
     size: u32,
     k: usize,
 )
-    requires { (tab.now ≡ crc_tables) × Sound size k 0 × (b < size) × Wide size (columns ids.old hashes.old counts.old)
-        × (nat_abs s ≤ 1) × Small size (2 ^ 61) (columns ids.old hashes.old counts.old)
-        × (shown.old ≡ marks (shows (rule k size 0) (view (columns ids.old hashes.old counts.old)))) }
-    ensures { (columns ids.new hashes.new counts.new
+    requires tables { tab.now ≡ crc_tables }
+    requires sound { Sound size k 0 }
+    requires inside { b < size }
+    requires wide { Wide size (columns ids.old hashes.old counts.old) }
+    requires small { Small size (2 ^ 61) (columns ids.old hashes.old counts.old) }
+    requires one { nat_abs s ≤ 1 }
+    requires shown { shown.old ≡ marks (shows (rule k size 0) (view (columns ids.old hashes.old counts.old))) }
+    ensures taken { columns ids.new hashes.new counts.new
         ≡ place (columns ids.old hashes.old counts.old) b
-        (view (columns ids.old hashes.old counts.old) b ⊕ neg (bucket x h s)))
-        × (shown.new ≡ marks (shows (rule k size 0) (view (columns ids.new hashes.new counts.new)))) }
+        (view (columns ids.old hashes.old counts.old) b ⊕ neg (bucket x h s)) }
+    ensures shown { shown.new ≡ marks (shows (rule k size 0) (view (columns ids.new hashes.new counts.new))) }
 {
     crate::adding::put_at(ids, hashes, counts, b, x, h, 0 - s);
     shown.mark(b, looks_pure(tab, ids, hashes, counts, b, size, k));
@@ -162,7 +175,10 @@ fn looks_pure(
     size: u32,
     k: usize,
 ) -> bool
-    requires { (tab.now ≡ crc_tables) × Sound size k 0 × (b < size) × Wide size (columns ids.now hashes.now counts.now) }
+    requires tables { tab.now ≡ crc_tables }
+    requires sound { Sound size k 0 }
+    requires inside { b < size }
+    requires wide { Wide size (columns ids.now hashes.now counts.now) }
     ensures { result ≡ is_pure (rule k size 0) b (view (columns ids.now hashes.now counts.now) b) }
 {
     let s = counts[b];
@@ -173,7 +189,9 @@ fn looks_pure(
 impl Lengths {
     // Lists an ID on its side.
     fn enter(&mut self, ours: &mut [u64], theirs: &mut [u64], id: u64, s: i64)
-        requires { (self.old.ours < length ours.old) × (self.old.theirs < length theirs.old) × (is_one s ≡ true) }
+        requires ours_room { self.old.ours < length ours.old }
+        requires theirs_room { self.old.theirs < length theirs.old }
+        requires one { IsTrue (is_one s) }
         ensures { (o₀ t₀ : List ℕ) (acc : List Item) → length ours.old ≡ length o₀ → length theirs.old ≡ length t₀
             → Listed o₀ t₀ acc ours.old theirs.old self.old.ours self.old.theirs
             → Listed o₀ t₀ (sided s id ∷ acc) ours.new theirs.new self.new.ours self.new.theirs }
