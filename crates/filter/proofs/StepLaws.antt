@@ -185,6 +185,7 @@ module _ {n : Input} {g : State} (p : Peeling n g) where
       listed_is = λ v s.
           subst (λ (q : Outcome). Listed n.ours n.theirs q.listed g.ours g.theirs v.ours v.theirs) (sym e)
           (rw (here v s) p.listed);
+      listed_few = λ v s. rw (here v s) (omega (arith, peeling_count, p.few));
       some = p.acc;
       ours-some = g.listed.ours;
       theirs-some = g.listed.theirs;

@@ -95,6 +95,7 @@ pub record Peels (size : ℕ) (q : Outcome) (c₀ : Columns) (o₀ t₀ : List �
   pub fine_is : is_some r ≡ q.fine
   pub rest_is : is_some r ≡ true → c ≡ filled size q.rest c₀
   pub listed_is : (n : Lengths) → r ≡ Some n → Listed o₀ t₀ q.listed o t n.ours n.theirs
+  pub listed_few : (n : Lengths) → r ≡ Some n → n.ours + n.theirs ≤ size
   -- in any case: only the first size places have changed
   pub some : List Item
   pub ours-some : ℕ

@@ -61,7 +61,8 @@ pub(crate) fn read_all(
 
 // The estimate where stratum i is the first that is not complete, and the total is listed above it: of nothing, nothing is known.
 fn sample(total: u64, i: usize) -> Estimate
-    requires { (total < 4096) × (i < 32) }
+    requires few { total < 4096 }
+    requires inside { i < 32 }
     ensures { result ≡ sampled total i }
 {
     if total == 0 {
@@ -80,12 +81,15 @@ fn read_one(
     s: usize,
     salt: u32,
 ) -> Option<usize>
-    requires { (tab.now ≡ crc_tables) × (salt < 64) × (s < 32) × Wide 2528 (columns ids.old hashes.old counts.old)
-        × Small (79 * (s + 1)) (2 ^ 34) (columns ids.old hashes.old counts.old) }
-    ensures { (result ≡ counted (reading_at salt s (view (columns ids.old hashes.old counts.old))))
-        × (columns ids.new hashes.new counts.new
+    requires tables { tab.now ≡ crc_tables }
+    requires salt_in { salt < 64 }
+    requires inside { s < 32 }
+    requires wide { Wide 2528 (columns ids.old hashes.old counts.old) }
+    requires small { Small (79 * (s + 1)) (2 ^ 34) (columns ids.old hashes.old counts.old) }
+    ensures listed { result ≡ counted (reading_at salt s (view (columns ids.old hashes.old counts.old))) }
+    ensures left { columns ids.new hashes.new counts.new
         ≡ filled 2528 (left_at salt s (view (columns ids.old hashes.old counts.old)))
-        (columns ids.old hashes.old counts.old)) }
+        (columns ids.old hashes.old counts.old) }
 {
     let a = 79 * s;
     let e = a + 79;
@@ -101,13 +105,15 @@ fn read_part(
     trees: &mut Trees,
     salt: u32,
 ) -> Option<usize>
-    requires { (tab.now ≡ crc_tables) × (salt < 64) × Wide 79 (columns ids.old hashes.old counts.old)
-        × Small 79 (2 ^ 34) (columns ids.old hashes.old counts.old) }
-    ensures { (result ≡ counted (reading (stratum_rule salt) (view (columns ids.old hashes.old counts.old))))
-        × (columns ids.new hashes.new counts.new
+    requires tables { tab.now ≡ crc_tables }
+    requires salt_in { salt < 64 }
+    requires wide { Wide 79 (columns ids.old hashes.old counts.old) }
+    requires small { Small 79 (2 ^ 34) (columns ids.old hashes.old counts.old) }
+    ensures listed { result ≡ counted (reading (stratum_rule salt) (view (columns ids.old hashes.old counts.old))) }
+    ensures left { columns ids.new hashes.new counts.new
         ≡ filled 79 (left_by (strata_verdict (reading (stratum_rule salt) (view (columns ids.old hashes.old counts.old))))
         (reading (stratum_rule salt) (view (columns ids.old hashes.old counts.old))))
-        (columns ids.old hashes.old counts.old)) }
+        (columns ids.old hashes.old counts.old) }
 {
     let mut ours = [0u64; 79];
     let mut theirs = [0u64; 79];
