@@ -20,7 +20,6 @@ use Rattle.filter.specs.Calls.{filled}
 use Rattle.filter.specs.Estimator.{stratum_rule, stratum, strata_verdict, reading_at, readings, sampled, estimate_of, left_by, left_at, remaining}
 use Rattle.filter.specs.Steps.{Wide, Small, Peels, counted}
 use Rattle.filter.proofs.FilledLaws.{
-  lengths_refl,
   lengths_trans,
   filled_is_lengths,
   wide-same,
@@ -108,17 +107,6 @@ pub record Tally (salt : ℕ) (c₀ c : Columns) (total n : ℕ) : Type 0 where
   pub bound : total ≤ 79 * (32 - n)
   pub estimate : estimate_of total (readings salt n (view c)) ≡ estimate_of 0 (readings salt 32 (view c₀))
   pub left : filled 2528 (remaining salt n (view c)) c ≡ filled 2528 (remaining salt 32 (view c₀)) c₀
-
-pub tally_start : (salt : ℕ) (c : Columns) → Wide 2528 c → Small 2528 (2 ^ 34) c → Tally salt c c 0 32
-tally_start salt c w s = record {
-  few = omega arith;
-  wide = w;
-  lengths = lengths_refl c;
-  small = s;
-  bound = omega arith;
-  estimate = refl;
-  left = refl;
-}
 
 module _ (salt m : ℕ) (c c' : Columns) (h : m < 32) (w : Wide 2528 c) (e : c' ≡ filled 2528 (left_at salt m (view c)) c) where
   view-left : view c' ≡ left_at salt m (view c)
