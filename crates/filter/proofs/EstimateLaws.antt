@@ -2,7 +2,7 @@
 -- readings say and leave goes by their own buckets alone, so that columns that hold the difference are read as it is. Assumes nothing.
 use mathlib.Core.Path.{◌≡◌, ap, ◌∙◌}
 use mathlib.Core.Bool.{true, ◌&&◌, and-eq-true_iff}
-use Prim.Native.Nat.{ℕ, ◌+◌, ◌*◌, ◌^◌, ◌≤◌, ◌<◌, zero-le}
+use Prim.Native.Nat.{ℕ, ◌+◌, ◌*◌, ◌^◌, ◌≤◌, ◌<◌}
 use native.Mathlib.Omega.{arith}
 use lib.Bits.{bit_xor}
 use lib.IntN.{ℤ, pos, neg_ℤ, nat_abs, ◌+ℤ◌, ◌-ℤ◌}
@@ -12,24 +12,13 @@ use mir.Val.{SFits, to_z, of_z}
 use mir.ValLaws.{to_z-of_z}
 use Rattle.bucket.specs.Bucket.{Bucket, ◌⊕◌, neg}
 use Rattle.bucket.specs.Columns.{Columns, columns, view, place}
-use Rattle.bucket.proofs.ColumnLaws.{SameLengths}
 use Rattle.bucket.proofs.SmallLaws.{small-fits}
 use Rattle.filter.specs.declared.answers.Estimate.{Estimate}
 use Rattle.filter.specs.Answers.{made_answer}
 use Rattle.filter.specs.Calls.{are_counts, has_room, filled}
 use Rattle.filter.specs.Estimator.{less, readings, estimate_of, remaining, estimate_refusal, estimated, estimate_call}
 use Rattle.filter.specs.Steps.{Wide, Small}
-use Rattle.filter.proofs.FilledLaws.{
-  filled_none,
-  filled_next,
-  filled_is_lengths,
-  filled-filled,
-  filled_cong,
-  view-filled_in,
-  view-filled-out,
-  wide-same,
-  wide_of,
-}
+use Rattle.filter.proofs.FilledLaws.{filled_next, filled_is_lengths, filled-filled, filled_cong, view-filled_in, view-filled-out, wide-same, wide_of}
 use Rattle.filter.proofs.FormLaws.{counts-small}
 use Rattle.filter.proofs.NegatedLaws.{abs_neg}
 use Rattle.filter.proofs.SpreadLaws.{abs_sum, abs_small, small-more}

@@ -130,8 +130,10 @@ fn take_out(
     ensures shown { shown.new ≡ marks (shows (rule k size 0) (view (columns ids.new hashes.new counts.new))) }
 {
     let p = bucket::places::places(tab, h, size, k);
-    for b in &p[..k] {
-        settle(tab, ids, hashes, counts, shown, *b as usize, x, h, s, size, k);
+    for &b in &p[..k] {
+        settle(
+            tab, ids, hashes, counts, shown, b as usize, x, h, s, size, k,
+        );
     }
 }
 

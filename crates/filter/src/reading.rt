@@ -149,7 +149,9 @@ fn peel_difference(
     crate::clearing::clear_list(theirs, size as usize);
     let k = bucket::places::place_count(size);
     let mut trees = Trees::new();
-    crate::peeling::peel(&tab, ids, hashes, counts, ours, theirs, &mut trees, size, salt, k)
+    crate::peeling::peel(
+        &tab, ids, hashes, counts, ours, theirs, &mut trees, size, salt, k,
+    )
 }
 
 // The received columns become ours minus received: their signs are turned, and our elements added.

@@ -112,5 +112,9 @@ fn root(heads: &[u16; 4096], seen: &[u64], v: u64) -> Option<usize>
 {
     let p = (heads[(v % 4096) as usize] as usize).checked_sub(1)?;
     let first = *seen.get(p)?;
-    if first % 4096 == v % 4096 { Some(p) } else { None }
+    if first % 4096 == v % 4096 {
+        Some(p)
+    } else {
+        None
+    }
 }

@@ -93,7 +93,14 @@ fn read_one(
 {
     let a = 79 * s;
     let e = a + 79;
-    read_part(tab, &mut ids[a..e], &mut hashes[a..e], &mut counts[a..e], trees, salt)
+    read_part(
+        tab,
+        &mut ids[a..e],
+        &mut hashes[a..e],
+        &mut counts[a..e],
+        trees,
+        salt,
+    )
 }
 
 // The same of one stratum, lent alone. A false one is left zero.
@@ -117,7 +124,18 @@ fn read_part(
 {
     let mut ours = [0u64; 79];
     let mut theirs = [0u64; 79];
-    let p = crate::peeling::peel(tab, ids, hashes, counts, &mut ours, &mut theirs, trees, 79, salt, 3);
+    let p = crate::peeling::peel(
+        tab,
+        ids,
+        hashes,
+        counts,
+        &mut ours,
+        &mut theirs,
+        trees,
+        79,
+        salt,
+        3,
+    );
     let Some(listed) = p.listed else {
         crate::clearing::clear_columns(ids, hashes, counts, 79);
         return None;

@@ -1,4 +1,3 @@
-use mathlib.Core.Path.{sym}
 use Rattle.bucket.specs.Columns.{columns, view}
 use Rattle.filter.specs.Estimator.{less}
 use Rattle.filter.proofs.FilledLaws.{filled_none}

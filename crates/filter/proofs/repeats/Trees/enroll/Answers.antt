@@ -1,10 +1,9 @@
 -- `Trees::enroll` meets its contract: a new number is noted at the empty place where the search for it ends. Assumes nothing.
 use mathlib.Core.Path.{◌≡◌, sym, ap}
-use mathlib.Core.Bool.{false, not}
+use mathlib.Core.Bool.{not}
 use Prim.Native.Nat.{◌<◌}
 use native.Mathlib.Omega.{arith}
 use lib.ListN.{length, take, length-take}
-use Rattle.bucket.specs.Lists.{elem}
 use Rattle.std.proofs.lemmas.List.{take_more_set}
 use Rattle.filter.specs.Repeats.{Placed}
 use Rattle.filter.proofs.RepeatLaws.{grown_head, grown_link}
