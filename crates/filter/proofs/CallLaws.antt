@@ -15,6 +15,8 @@ use Rattle.bucket.specs.Columns.{Columns, view}
 use Rattle.bucket.specs.Lists.{over, pad}
 use Rattle.bucket.proofs.OverLaws.{open_over, over-length}
 use Rattle.bucket.proofs.ListLaws.{pad-length}
+use Rattle.std.specs.Prelude.{Option, Some, None, is_some}
+use Rattle.filter.specs.declared.peeling.Lengths.{Lengths}
 use Rattle.filter.specs.declared.answers.Verdict.{Verdict}
 use Rattle.filter.specs.declared.answers.Verdict.TheVariants.{Complete, Stuck, False}
 use Rattle.filter.specs.Answers.{answer}
@@ -97,16 +99,19 @@ module _ (R : Rule) (D : ℕ → Bucket) (c₀ : Columns) (w : Wide R.size c₀)
   alike : Alike R (reading R (view (filled R.size D c₀))) (reading R D)
   alike = reading_cong R (view (filled R.size D c₀)) D (λ i h. view-filled_in R.size D c₀ i w h)
 
-  pub peels_from : {o₀ t₀ : List ℕ} {fine : Bool} {c : Columns} {o t : List ℕ} {a b : ℕ}
-      → Peels R.size (reading R (view (filled R.size D c₀))) (filled R.size D c₀) o₀ t₀ fine c o t a b
-      → Peels R.size (reading R D) c₀ o₀ t₀ fine c o t a b
-  peels_from {o₀} {t₀} {fine} {c} {o} {t} {a} {b} p = record {
+  pub peels_from : {o₀ t₀ : List ℕ} {n : Option Lengths} {c : Columns} {o t : List ℕ}
+      → Peels R.size (reading R (view (filled R.size D c₀))) (filled R.size D c₀) o₀ t₀ n c o t
+      → Peels R.size (reading R D) c₀ o₀ t₀ n c o t
+  peels_from {o₀} {t₀} {n} {c} {o} {t} p = record {
     fine_is = p.fine_is ∙ alike.fine;
     rest_is = λ e.
         p.rest_is e ∙ filled-filled R.size D (reading R (view (filled R.size D c₀))).rest c₀ w
         ∙ filled_cong R.size (reading R (view (filled R.size D c₀))).rest (reading R D).rest c₀ alike.rest;
-    listed_is = λ e. subst (λ (l : List Item). Listed o₀ t₀ l o t a b) alike.listed (p.listed_is e);
+    listed_is = λ m e. subst (λ (l : List Item). Listed o₀ t₀ l o t m.ours m.theirs) alike.listed (p.listed_is m e);
+    listed_few = p.listed_few;
     some = p.some;
+    ours-some = p.ours-some;
+    theirs-some = p.theirs-some;
     listed-some = p.listed-some;
     few = p.few;
     rest = p.rest;
@@ -116,14 +121,14 @@ module _ (R : Rule) (D : ℕ → Bucket) (c₀ : Columns) (w : Wide R.size c₀)
 -- the same where the columns, the lists and the number of places are known by equations
 pub peels_call : (size salt K : ℕ) (D : ℕ → Bucket) (c₀ : Columns) → Wide size c₀ → (k : ℕ) {c₁ : Columns} {o₁ t₁ o₀ t₀ : List ℕ}
     → k ≡ K → c₁ ≡ filled size D c₀ → o₁ ≡ o₀ → t₁ ≡ t₀
-    → {fine : Bool} {c : Columns} {o t : List ℕ} {a b : ℕ} → Peels size (reading (rule k size salt) (view c₁)) c₁ o₁ t₁ fine c o t a b
-    → Peels size (reading (rule K size salt) D) c₀ o₀ t₀ fine c o t a b
-peels_call size salt K D c₀ w k {c₁} {o₁} {t₁} {o₀} {t₀} e f g h {fine} {c} {o} {t} {a} {b} p =
+    → {n : Option Lengths} {c : Columns} {o t : List ℕ} → Peels size (reading (rule k size salt) (view c₁)) c₁ o₁ t₁ n c o t
+    → Peels size (reading (rule K size salt) D) c₀ o₀ t₀ n c o t
+peels_call size salt K D c₀ w k {c₁} {o₁} {t₁} {o₀} {t₀} e f g h {n} {c} {o} {t} p =
     peels_from (rule K size salt) D c₀ w
-    (subst (λ (x : List ℕ). Peels size (reading (rule K size salt) (view (filled size D c₀))) (filled size D c₀) o₀ x fine c o t a b) h
-    (subst (λ (x : List ℕ). Peels size (reading (rule K size salt) (view (filled size D c₀))) (filled size D c₀) x t₁ fine c o t a b) g
-    (subst (λ (d : Columns). Peels size (reading (rule K size salt) (view d)) d o₁ t₁ fine c o t a b) f
-    (subst (λ (m : ℕ). Peels size (reading (rule m size salt) (view c₁)) c₁ o₁ t₁ fine c o t a b) e p))))
+    (subst (λ (x : List ℕ). Peels size (reading (rule K size salt) (view (filled size D c₀))) (filled size D c₀) o₀ x n c o t) h
+    (subst (λ (x : List ℕ). Peels size (reading (rule K size salt) (view (filled size D c₀))) (filled size D c₀) x t₁ n c o t) g
+    (subst (λ (d : Columns). Peels size (reading (rule K size salt) (view d)) d o₁ t₁ n c o t) f
+    (subst (λ (m : ℕ). Peels size (reading (rule m size salt) (view c₁)) c₁ o₁ t₁ n c o t) e p))))
 
 -- and the number of buckets looked at
 pub looked_call : (size salt K : ℕ) (D : ℕ → Bucket) (c₀ : Columns) → Wide size c₀ → (k : ℕ) {c₁ : Columns} → k ≡ K → c₁ ≡ filled size D c₀
@@ -163,8 +168,8 @@ module _ {size : ℕ} {l₀ xs l : List ℕ} {n : ℕ} (h : Lists size l₀ xs l
   list-taken = ap₂ {C = List ℕ} take (h.count ∙ sym (length-reverse xs)) h.list ∙ listed-taken size (reverse xs) l₀ fit h.room
 
 module _ {size salt : ℕ} {tb : List ℕ} {c₀ : Columns} {o₀ t₀ : List ℕ} (r : Ready size salt tb c₀ o₀ t₀) {q : Outcome}
-    {fine : Bool} {c : Columns} {o t : List ℕ} {a b : ℕ} (p : Peels size q c₀ (listed_into size [] o₀) (listed_into size [] t₀) fine c o t a b) where
-  ours-some : Lists size o₀ (ours_of p.some) o a
+    {ended : Option Lengths} {c : Columns} {o t : List ℕ} (p : Peels size q c₀ (listed_into size [] o₀) (listed_into size [] t₀) ended c o t) where
+  ours-some : Lists size o₀ (ours_of p.some) o p.ours-some
   ours-some = record {
     room = r.ours-room;
     few = omega (arith, ours-few p.some, p.few);
@@ -172,7 +177,7 @@ module _ {size salt : ℕ} {tb : List ℕ} {c₀ : Columns} {o₀ t₀ : List �
     count = p.listed-some.ours-count;
   }
 
-  theirs-some : Lists size t₀ (theirs_of p.some) t b
+  theirs-some : Lists size t₀ (theirs_of p.some) t p.theirs-some
   theirs-some = record {
     room = r.theirs-room;
     few = omega (arith, theirs-few p.some, p.few);
@@ -183,89 +188,95 @@ module _ {size salt : ℕ} {tb : List ℕ} {c₀ : Columns} {o₀ t₀ : List �
   columns-wide : Wide size c
   columns-wide = rw p.kept (wide-filled size size p.rest c₀ r.received.wide)
 
-  -- what judging and clearing ask
-  pub judge_ready : (is_table first_eight tb ≡ true) × Wide size c × (a ≤ length o) × (b ≤ length t)
-  judge_ready = (r.received.table, columns-wide, list-within ours-some, list-within theirs-some)
-
+  -- what clearing asks
   pub clear-again : Wide size c × (size ≤ length o) × (size ≤ length t)
   clear-again = (columns-wide, omega (arith, list_length ours-some, r.ours-room), omega (arith, list_length theirs-some, r.theirs-room))
 
-  -- a peeling in order
-  module _ (e : fine ≡ true) where
-    ours-all : Lists size o₀ (ours_of q.listed) o a
-    ours-all = record {
+  -- and what it leaves
+  cleared : {l n : ℕ} → l ≡ n → {c' : Columns} {o' t' : List ℕ} → c' ≡ filled size (λ i. 𝟎) c → o' ≡ listed_into size [] o → t' ≡ listed_into size [] t
+      → answered (answer 6 0 0 0 l) c' o' t' ≡ read_with False size q n c₀ o₀ t₀
+  unfolding read_with
+  cleared m x y z =
+      let u = x ∙ ap (filled size (λ i. 𝟎)) p.kept ∙ filled-filled size p.rest (λ i. 𝟎) c₀ r.received.wide in
+      λ k. answered (answer 6 0 0 0 (m k)) (u k) ((y ∙ list-cleared ours-some) k) ((z ∙ list-cleared theirs-some) k)
+
+  -- a peeling that is not in order
+  pub read_none : {l n : ℕ} → l ≡ n → ended ≡ None → {c' : Columns} {o' t' : List ℕ} → c' ≡ filled size (λ i. 𝟎) c → o' ≡ listed_into size [] o → t' ≡ listed_into size [] t
+      → answered (answer 6 0 0 0 l) c' o' t' ≡ read_with (verdict (filter_rule size salt) (ids_of first_eight tb) q) size q n c₀ o₀ t₀
+  unfolding verdict
+  read_none {l} {n} m e x y z =
+      cleared m x y z
+      ∙ ap (λ (f : Bool). read_with (verdict_by f (all_zero q.rest size) (agrees (ids_of first_eight tb) q.listed)) size q n c₀ o₀ t₀)
+      (sym (ap is_some e) ∙ p.fine_is)
+
+  -- a peeling in order, which listed so many
+  module _ {a : Lengths} (e : ended ≡ Some a) where
+    ours-all : Lists size o₀ (ours_of q.listed) o a.ours
+    ours-all = let l = p.listed_is a e in record {
       room = r.ours-room;
-      few = omega (arith, ours-some.few, ours-some.count, (p.listed_is e).ours-count);
-      list = (p.listed_is e).ours;
-      count = (p.listed_is e).ours-count;
+      few = omega (arith, p.listed_few a e, l.ours-count);
+      list = l.ours;
+      count = l.ours-count;
     }
 
-    theirs-all : Lists size t₀ (theirs_of q.listed) t b
-    theirs-all = record {
+    theirs-all : Lists size t₀ (theirs_of q.listed) t a.theirs
+    theirs-all = let l = p.listed_is a e in record {
       room = r.theirs-room;
-      few = omega (arith, theirs-some.few, theirs-some.count, (p.listed_is e).theirs-count);
-      list = (p.listed_is e).theirs;
-      count = (p.listed_is e).theirs-count;
+      few = omega (arith, p.listed_few a e, l.theirs-count);
+      list = l.theirs;
+      count = l.theirs-count;
     }
+
+    -- what judging asks
+    pub judge_ready : (is_table first_eight tb ≡ true) × Wide size c × (a.ours ≤ length o) × (a.theirs ≤ length t)
+    judge_ready = (r.received.table, columns-wide, list-within ours-all, list-within theirs-all)
+
+    fine_is : is_some ended ≡ true
+    fine_is = ap is_some e
 
     zeros_are : all_zero (view c) size ≡ all_zero q.rest size
     zeros_are =
-        ap (λ (d : Columns). all_zero (view d) size) (p.rest_is e)
+        ap (λ (d : Columns). all_zero (view d) size) (p.rest_is fine_is)
         ∙ all_zero_cong (view (filled size q.rest c₀)) q.rest size (λ i h. view-filled_in size q.rest c₀ i r.received.wide h)
 
-    agrees_are : (ids : List ℕ) → every true ids (take a o) && every false ids (take b t) ≡ agrees ids q.listed
+    agrees_are : (ids : List ℕ) → every true ids (take a.ours o) && every false ids (take a.theirs t) ≡ agrees ids q.listed
     agrees_are ids =
         ap₂ (λ (x y : List ℕ). every true ids x && every false ids y) (list-taken ours-all) (list-taken theirs-all)
         ∙ ap₂ ◌&&◌ (every-reverse true ids (ours_of q.listed)) (every-reverse false ids (theirs_of q.listed))
         ∙ agrees_sides ids q.listed
 
-    read-listed : (whole : ℕ) {l n : ℕ} → l ≡ n → answered (answer 0 whole a b l) c o t ≡ read_as whole size q n c₀ o₀ t₀
-    read-listed whole m = λ k. answered (answer 0 whole (ours-all.count k) (theirs-all.count k) (m k)) (p.rest_is e k)
+    read-listed : (whole : ℕ) {l n : ℕ} → l ≡ n → answered (answer 0 whole a.ours a.theirs l) c o t ≡ read_as whole size q n c₀ o₀ t₀
+    read-listed whole m = λ k. answered (answer 0 whole (ours-all.count k) (theirs-all.count k) (m k)) (p.rest_is fine_is k)
         (list-listed ours-all k) (list-listed theirs-all k)
 
-  -- by the verdict that the code comes to, and the number that it has
-  module _ {l n : ℕ} (m : l ≡ n) {v : Verdict} (e : v ≡ verdict_by fine (all_zero (view c) size)
-      (every true (ids_of first_eight tb) (take a o) && every false (ids_of first_eight tb) (take b t))) where
-    -- it is the definition's
-    verdict_is : v ≡ verdict (filter_rule size salt) (ids_of first_eight tb) q
-    unfolding verdict
-    verdict_is = e ∙ go fine refl ∙ ap (λ (f : Bool). verdict_by f (all_zero q.rest size) (agrees (ids_of first_eight tb) q.listed)) p.fine_is
-      where
-        go : (f : Bool) → fine ≡ f → verdict_by f (all_zero (view c) size)
-            (every true (ids_of first_eight tb) (take a o) && every false (ids_of first_eight tb) (take b t))
-            ≡ verdict_by f (all_zero q.rest size) (agrees (ids_of first_eight tb) q.listed)
-        go true h = ap₂ (verdict_by true) (zeros_are h) (agrees_are h (ids_of first_eight tb))
-        go false h = refl
+    -- by the verdict that the code comes to, and the number that it has
+    module _ {l n : ℕ} (m : l ≡ n) {v : Verdict} (j : v ≡ verdict_by true (all_zero (view c) size)
+        (every true (ids_of first_eight tb) (take a.ours o) && every false (ids_of first_eight tb) (take a.theirs t))) where
+      -- it is the definition's
+      verdict_is : v ≡ verdict (filter_rule size salt) (ids_of first_eight tb) q
+      unfolding verdict
+      verdict_is =
+          j ∙ ap₂ (verdict_by true) zeros_are (agrees_are (ids_of first_eight tb))
+          ∙ ap (λ (f : Bool). verdict_by f (all_zero q.rest size) (agrees (ids_of first_eight tb) q.listed)) (sym fine_is ∙ p.fine_is)
 
-    in_order_lem : (u : Verdict) → v ≡ u → (u ≡ False → false ≡ true) → fine ≡ true
-    in_order_lem u h ne = go fine refl
-      where
-        go : (f : Bool) → fine ≡ f → f ≡ true
-        go true k = refl
-        go false k = ne (sym h ∙ e ∙ ap (λ (f : Bool). verdict_by f (all_zero (view c) size)
-            (every true (ids_of first_eight tb) (take a o) && every false (ids_of first_eight tb) (take b t))) k)
+      -- what the definition makes of it
+      abbrev Told : Verdict → Read
+      Told u = read_with u size q n c₀ o₀ t₀
 
-    -- what the definition makes of it
-    abbrev Told : Verdict → Read
-    Told u = read_with u size q n c₀ o₀ t₀
+      told : (u : Verdict) → v ≡ u → Told u ≡ Told (verdict (filter_rule size salt) (ids_of first_eight tb) q)
+      told u h = ap Told (sym h ∙ verdict_is)
 
-    told : (u : Verdict) → v ≡ u → Told u ≡ Told (verdict (filter_rule size salt) (ids_of first_eight tb) q)
-    told u h = ap Told (sym h ∙ verdict_is)
+      pub read-complete : v ≡ Complete → answered (answer 0 1 a.ours a.theirs l) c o t ≡ Told (verdict (filter_rule size salt) (ids_of first_eight tb) q)
+      unfolding read_with
+      read-complete h = read-listed 1 m ∙ told Complete h
 
-    pub read-complete : v ≡ Complete → answered (answer 0 1 a b l) c o t ≡ Told (verdict (filter_rule size salt) (ids_of first_eight tb) q)
-    unfolding read_with
-    read-complete h = read-listed (in_order_lem Complete h (λ x. cc)) 1 m ∙ told Complete h
+      pub read-stuck : v ≡ Stuck → answered (answer 0 0 a.ours a.theirs l) c o t ≡ Told (verdict (filter_rule size salt) (ids_of first_eight tb) q)
+      unfolding read_with
+      read-stuck h = read-listed 0 m ∙ told Stuck h
 
-    pub read-stuck : v ≡ Stuck → answered (answer 0 0 a b l) c o t ≡ Told (verdict (filter_rule size salt) (ids_of first_eight tb) q)
-    unfolding read_with
-    read-stuck h = read-listed (in_order_lem Stuck h (λ x. cc)) 0 m ∙ told Stuck h
-
-    pub read_false_lem : v ≡ False → {c' : Columns} {o' t' : List ℕ} → c' ≡ filled size (λ i. 𝟎) c → o' ≡ listed_into size [] o → t' ≡ listed_into size [] t
-        → answered (answer 6 0 0 0 l) c' o' t' ≡ Told (verdict (filter_rule size salt) (ids_of first_eight tb) q)
-    unfolding read_with
-    read_false_lem h x y z =
-        let u = x ∙ ap (filled size (λ i. 𝟎)) p.kept ∙ filled-filled size p.rest (λ i. 𝟎) c₀ r.received.wide in
-        (λ k. answered (answer 6 0 0 0 (m k)) (u k) ((y ∙ list-cleared ours-some) k) ((z ∙ list-cleared theirs-some) k)) ∙ told False h
+      pub read_false_lem : v ≡ False → {c' : Columns} {o' t' : List ℕ} → c' ≡ filled size (λ i. 𝟎) c → o' ≡ listed_into size [] o → t' ≡ listed_into size [] t
+          → answered (answer 6 0 0 0 l) c' o' t' ≡ Told (verdict (filter_rule size salt) (ids_of first_eight tb) q)
+      read_false_lem h x y z = cleared m x y z ∙ told False h
 
 -- ---- the call as a whole
 

@@ -2,7 +2,7 @@
 -- readings say and leave goes by their own buckets alone, so that columns that hold the difference are read as it is. Assumes nothing.
 use mathlib.Core.Path.{◌≡◌, ap, ◌∙◌}
 use mathlib.Core.Bool.{true, ◌&&◌, and-eq-true_iff}
-use Prim.Native.Nat.{ℕ, ◌+◌, ◌*◌, ◌^◌, ◌≤◌, ◌<◌, zero-le}
+use Prim.Native.Nat.{ℕ, ◌+◌, ◌*◌, ◌^◌, ◌≤◌, ◌<◌}
 use native.Mathlib.Omega.{arith}
 use lib.Bits.{bit_xor}
 use lib.IntN.{ℤ, pos, neg_ℤ, nat_abs, ◌+ℤ◌, ◌-ℤ◌}
@@ -12,24 +12,13 @@ use mir.Val.{SFits, to_z, of_z}
 use mir.ValLaws.{to_z-of_z}
 use Rattle.bucket.specs.Bucket.{Bucket, ◌⊕◌, neg}
 use Rattle.bucket.specs.Columns.{Columns, columns, view, place}
-use Rattle.bucket.proofs.ColumnLaws.{SameLengths}
 use Rattle.bucket.proofs.SmallLaws.{small-fits}
 use Rattle.filter.specs.declared.answers.Estimate.{Estimate}
 use Rattle.filter.specs.Answers.{made_answer}
 use Rattle.filter.specs.Calls.{are_counts, has_room, filled}
 use Rattle.filter.specs.Estimator.{less, readings, estimate_of, remaining, estimate_refusal, estimated, estimate_call}
 use Rattle.filter.specs.Steps.{Wide, Small}
-use Rattle.filter.proofs.FilledLaws.{
-  filled_none,
-  filled_next,
-  filled_is_lengths,
-  filled-filled,
-  filled_cong,
-  view-filled_in,
-  view-filled-out,
-  wide-same,
-  wide_of,
-}
+use Rattle.filter.proofs.FilledLaws.{filled_next, filled_is_lengths, filled-filled, filled_cong, view-filled_in, view-filled-out, wide-same, wide_of}
 use Rattle.filter.proofs.FormLaws.{counts-small}
 use Rattle.filter.proofs.NegatedLaws.{abs_neg}
 use Rattle.filter.proofs.SpreadLaws.{abs_sum, abs_small, small-more}
@@ -52,58 +41,41 @@ module _ (a b : ℤ) (ha : nat_abs a < 2 ^ 33) (hb : nat_abs b < 2 ^ 33) where
   less-fits = small-fits (a +ℤ neg_ℤ b) (abs_small (a +ℤ neg_ℤ b) (omega (arith, abs_less a b)))
 
   -- what the code's difference must fit, and what it gives
-  pub count-less-fits : SFits w64 (to_z w64 (of_z w64 a) -ℤ to_z w64 (of_z w64 b))
+  count-less-fits : SFits w64 (to_z w64 (of_z w64 a) -ℤ to_z w64 (of_z w64 b))
   count-less-fits = rw (to_z-of_z w64 a left-fits, to_z-of_z w64 b right-fits) less-fits
 
-  pub count_less : to_z w64 (of_z w64 (to_z w64 (of_z w64 a) -ℤ to_z w64 (of_z w64 b))) ≡ a +ℤ neg_ℤ b
+  count_less : to_z w64 (of_z w64 (to_z w64 (of_z w64 a) -ℤ to_z w64 (of_z w64 b))) ≡ a +ℤ neg_ℤ b
   count_less = rw (to_z-of_z w64 a left-fits, to_z-of_z w64 b right-fits, to_z-of_z w64 (a +ℤ neg_ℤ b) less-fits)
 
--- ---- a loop that subtracts one bucket after another: d from what c₀ was
+-- ---- a loop that subtracts one bucket after another: the first i buckets are done, d from what c₀ was
 
-pub record Subtracting (n : ℕ) (c₀ d c : Columns) (i : ℕ) : Type 0 where
-  pub within : i ≤ n
-  pub done : c ≡ filled i (less (view c₀) (view d)) c₀
+module _ {n : ℕ} {c₀ d c : Columns} {i : ℕ} (done : c ≡ filled i (less (view c₀) (view d)) c₀) (h : i < n) (s : Small n (2 ^ 33) c₀) (t : Small n (2 ^ 33) d) where
+  -- bucket i still holds what it held
+  old : view c i ≡ view c₀ i
+  old = ap (λ (x : Columns). view x i) done ∙ view-filled-out i (less (view c₀) (view d)) c₀ i (omega arith)
 
-pub subtracting_start : (n : ℕ) (c₀ d : Columns) → Subtracting n c₀ d c₀ 0
-subtracting_start n c₀ d = record { within = zero-le; done = filled_none (less (view c₀) (view d)) c₀ }
+  old_count : get_or c.counts i (pos 0) ≡ get_or c₀.counts i (pos 0)
+  unfolding view
+  old_count = ap (λ (b : Bucket). b.count) old
 
-module _ (n : ℕ) (c₀ d c : Columns) (i : ℕ) (k : Subtracting n c₀ d c i) where
-  pub subtracting_lengths : SameLengths c c₀
-  subtracting_lengths = filled_is_lengths i (less (view c₀) (view d)) c₀ c k.done
+  here_small : nat_abs (get_or c.counts i (pos 0)) < 2 ^ 33
+  here_small = rw old_count (s.all i h)
 
-  pub subtracting_wide : Wide n c₀ → Wide n c
-  subtracting_wide w = wide-same n c c₀ subtracting_lengths w
+  pub subtracting_fits : SFits w64 (to_z w64 (of_z w64 (get_or c.counts i (pos 0))) -ℤ to_z w64 (of_z w64 (get_or d.counts i (pos 0))))
+  subtracting_fits = count-less-fits (get_or c.counts i (pos 0)) (get_or d.counts i (pos 0)) here_small (t.all i h)
 
-  pub subtracting_end : n ≤ i → c ≡ filled n (less (view c₀) (view d)) c₀
-  subtracting_end h = k.done ∙ ap (λ (m : ℕ). filled m (less (view c₀) (view d)) c₀) (omega (arith, h, k.within))
-
-  module _ (h : i < n) (s : Small n (2 ^ 33) c₀) (t : Small n (2 ^ 33) d) where
-    -- bucket i still holds what it held
-    old : view c i ≡ view c₀ i
-    old = ap (λ (x : Columns). view x i) k.done ∙ view-filled-out i (less (view c₀) (view d)) c₀ i (omega arith)
-
-    old_count : get_or c.counts i (pos 0) ≡ get_or c₀.counts i (pos 0)
-    unfolding view
-    old_count = ap (λ (b : Bucket). b.count) old
-
-    pub small-here : nat_abs (get_or c.counts i (pos 0)) < 2 ^ 33
-    small-here = rw old_count (s.all i h)
-
-    pub subtracting_next : Subtracting n c₀ d
-        (columns (set c.idsums i (bit_xor (get_or c.idsums i 0) (get_or d.idsums i 0)))
-        (set c.hashsums i (bit_xor (get_or c.hashsums i 0) (get_or d.hashsums i 0)))
-        (set c.counts i (to_z w64 (of_z w64 (to_z w64 (of_z w64 (get_or c.counts i (pos 0))) -ℤ to_z w64 (of_z w64 (get_or d.counts i (pos 0))))))))
-        (i + 1)
-    unfolding place view ◌⊕◌ neg
-    subtracting_next = record {
-      within = omega arith;
-      done = ap (λ (z : ℤ). columns (set c.idsums i (bit_xor (get_or c.idsums i 0) (get_or d.idsums i 0)))
-          (set c.hashsums i (bit_xor (get_or c.hashsums i 0) (get_or d.hashsums i 0))) (set c.counts i z))
-          (count_less (get_or c.counts i (pos 0)) (get_or d.counts i (pos 0)) small-here (t.all i h))
-          ∙ ap (λ (b : Bucket). place c i (b ⊕ neg (view d i))) old
-          ∙ ap (λ (x : Columns). place x i (less (view c₀) (view d) i)) k.done
-          ∙ filled_next i (less (view c₀) (view d)) c₀;
-    }
+  pub subtracting_next : columns (set c.idsums i (bit_xor (get_or c.idsums i 0) (get_or d.idsums i 0)))
+      (set c.hashsums i (bit_xor (get_or c.hashsums i 0) (get_or d.hashsums i 0)))
+      (set c.counts i (to_z w64 (of_z w64 (to_z w64 (of_z w64 (get_or c.counts i (pos 0))) -ℤ to_z w64 (of_z w64 (get_or d.counts i (pos 0)))))))
+      ≡ filled (i + 1) (less (view c₀) (view d)) c₀
+  unfolding place view ◌⊕◌ neg
+  subtracting_next =
+      ap (λ (z : ℤ). columns (set c.idsums i (bit_xor (get_or c.idsums i 0) (get_or d.idsums i 0)))
+      (set c.hashsums i (bit_xor (get_or c.hashsums i 0) (get_or d.hashsums i 0))) (set c.counts i z))
+      (count_less (get_or c.counts i (pos 0)) (get_or d.counts i (pos 0)) here_small (t.all i h))
+      ∙ ap (λ (b : Bucket). place c i (b ⊕ neg (view d i))) old
+      ∙ ap (λ (x : Columns). place x i (less (view c₀) (view d) i)) done
+      ∙ filled_next i (less (view c₀) (view d)) c₀
 
 -- the difference's counts
 pub small-less : (n : ℕ) (a b : Columns) {c : Columns} → Wide n a → Small n (2 ^ 33) a → Small n (2 ^ 33) b

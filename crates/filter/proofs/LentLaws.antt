@@ -17,7 +17,7 @@ use Rattle.bucket.specs.Lists.{elem}
 use Rattle.bucket.proofs.BucketLaws.{bucket-same, ⊕-idr}
 use Rattle.bucket.proofs.ColumnLaws.{SameLengths}
 use Rattle.filter.specs.declared.answers.Verdict.{Verdict}
-use Rattle.filter.specs.declared.strata.Stratum.TheVariants.{Lists, Fails}
+use Rattle.std.specs.Prelude.{Some, None}
 use Rattle.filter.specs.Filter.{Item}
 use Rattle.filter.specs.Peeling.{Outcome, is_complete, reading}
 use Rattle.filter.specs.Calls.{filled}
@@ -261,7 +261,7 @@ module _ (salt s : ℕ) (c : Columns) (h : s < 32) (w : Wide 2528 c) where
 
   pub stratum-counted : counted (reading (stratum_rule salt) (view (lent s c))) ≡ counted (reading_at salt s (view c))
   stratum-counted =
-      ap₂ (λ (v : Verdict) (l : List Item). cond (is_complete v) (Lists (length l)) Fails)
+      ap₂ (λ (v : Verdict) (l : List Item). cond (is_complete v) (Some (length l)) None)
       (verdict_like salt (reading (stratum_rule salt) (view (lent s c))) (reading_at salt s (view c)) reading-lent) reading-lent.listed
 
   pub stratum-left : (p : Columns)

@@ -1,5 +1,4 @@
 -- The laws of the crate `filter`, for its own proofs and for the crates above. Demand 3 stands in Demand3, how long a reading can take in LookLaws.
-pub mod BitLaws
 pub mod MarkLaws
 pub mod RepeatLaws
 pub mod OrderLaws

@@ -1,146 +1,213 @@
--- The laws of `Marks`: the empty set, one number put in or out, and the least number, which two counts of trailing zeros find.
+-- The laws of marks: read at a number, one put on or off, and the first that is on, which two counts of trailing zeros find.
 -- Assumes nothing.
-use mathlib.Core.Path.{◌≡◌, refl, sym, ap, ap₂, subst, ◌∙◌}
+use mathlib.Core.Path.{◌≡◌, refl, sym, ap, ◌∙◌}
 use mathlib.Core.Logic.{◌≢◌}
 use mathlib.Core.Bool.{Bool, true, false, not, cond, true≢false}
 use mathlib.Core.List.{List}
 use Prim.Native.Nat.{ℕ, ◌+◌, ◌*◌, ◌/◌, ◌%◌, ◌^◌, ◌≤◌, ◌<◌}
 use native.Mathlib.Omega.{arith}
-use lib.Count.{count_trailing_zeros}
 use lib.Dec.{eqb, ltb}
-use lib.ListN.{get_or, set, replicate, length-set, length-replicate, get_or-replicate}
+use lib.ListN.{get_or, set, replicate, length, length-set, get_or-replicate}
 use lib.Seq.{get_or-set_same, get_or-set_other}
-use borrow.Author.Tests.{not-false, eq-eqb, ne_eqb, eqb-true, eqb-false, ltb-true, ltb-false}
-use Rattle.filter.specs.Marks.{lit, Marks, but, Least}
-use Rattle.filter.proofs.BitLaws.{Lowest, lowest-bit, lit_zero}
+use mir.Syntax.{w64}
+use borrow.Author.Tests.{lt-ltb, eq-eqb, ne_eqb, eqb-true, eqb-false, ltb-true, ltb-false}
+use Rattle.std.specs.Int.{bit_at, bit_not, trailing_zeros}
+use Rattle.std.specs.Prelude.{bit_and, bit_or, Option, Some, None, position}
+use Rattle.std.specs.List.{position_or_len}
+use Rattle.std.proofs.Common.{ext_get_or}
+use Rattle.std.proofs.lemmas.List.FromFn.{length-map-range_with_len, get_or-map-range_with_len}
+use Rattle.std.proofs.lemmas.List.Sums.{position_or_len_is, fails_before_first}
+use Rattle.std.proofs.lemmas.List.Quantifiers.{position-Some}
+use Rattle.std.proofs.lemmas.Nat.Bits.{bit_at-zero, bit_at_set_same, bit_at_set_other, bit_at_clear_same, bit_at_clear_other, bit_at-trailing_zeros}
+use Rattle.filter.specs.Marks.{lit, but, marks, mark_in, Topped}
 
--- ---- the empty set
+-- ---- a bit
 
-pub marks-none : (n : ℕ) → n ≡ 64 → Marks (λ b. false) (replicate n 0) 0
-marks-none n e = record {
-  len = length-replicate n 0 ∙ e;
-  fit = λ w l. rw (word w l) (omega arith);
-  each = λ b l. ap (λ (v : ℕ). lit v (b % 64)) (word (b / 64) (omega arith)) ∙ lit_zero (b % 64);
-  some = λ w l. lit_zero w ∙ ap (λ (v : ℕ). not (eqb v 0)) (sym (word w l));
-}
+pub lit_yes : (w j : ℕ) → bit_at w j ≡ 1 → lit w j ≡ true
+unfolding lit
+lit_yes w j e = eq-eqb (bit_at w j) 1 e
+
+pub lit_no : (w j : ℕ) → bit_at w j ≡ 0 → lit w j ≡ false
+unfolding lit
+lit_no w j e = ne_eqb (bit_at w j) 1 (λ f. omega arith)
+
+pub lit_same : (w v j : ℕ) → bit_at w j ≡ bit_at v j → lit w j ≡ lit v j
+unfolding lit
+lit_same w v j e = ap (λ (b : ℕ). eqb b 1) e
+
+pub lit_zero : (j : ℕ) → lit 0 j ≡ false
+lit_zero j = lit_no 0 j (bit_at-zero j)
+
+module _ (w j i : ℕ) (l : j < 64) where
+  pub lit_on : lit (bit_or w (1 * 2 ^ j % 2 ^ 64)) i ≡ but (lit w) j true i
+  lit_on = go (eqb i j) refl
+    where
+      go : (t : Bool) → eqb i j ≡ t → lit (bit_or w (1 * 2 ^ j % 2 ^ 64)) i ≡ cond t true (lit w i)
+      go true e = rw (eqb-true i j e) (lit_yes (bit_or w (1 * 2 ^ j % 2 ^ 64)) j (bit_at_set_same w64 w j l))
+      go false e = lit_same (bit_or w (1 * 2 ^ j % 2 ^ 64)) w i (bit_at_set_other w64 w j l i (eqb-false i j e))
+
+  pub lit_off : i < 64 → lit (bit_and w (bit_not w64 (1 * 2 ^ j % 2 ^ 64))) i ≡ but (lit w) j false i
+  lit_off h = go (eqb i j) refl
+    where
+      go : (t : Bool) → eqb i j ≡ t → lit (bit_and w (bit_not w64 (1 * 2 ^ j % 2 ^ 64))) i ≡ cond t false (lit w i)
+      go true e = rw (eqb-true i j e) (lit_no (bit_and w (bit_not w64 (1 * 2 ^ j % 2 ^ 64))) j (bit_at_clear_same w64 w j l))
+      go false e = lit_same (bit_and w (bit_not w64 (1 * 2 ^ j % 2 ^ 64))) w i (bit_at_clear_other w64 w j l i h (eqb-false i j e))
+
+-- ---- marks, read at a number
+
+pub marks-length : (g : ℕ → Bool) → length (marks g) ≡ 4096
+unfolding marks
+marks-length g = length-map-range_with_len g 0 4096
+
+pub marks-at : (g : ℕ → Bool) (b : ℕ) → b < 4096 → get_or (marks g) b false ≡ g b
+unfolding marks
+marks-at g b l = get_or-map-range_with_len g 0 4096 b b false l (omega arith)
+
+marks-from : (g : ℕ → Bool) (l : List Bool) → length l ≡ 4096 → ((b : ℕ) → b < 4096 → get_or l b false ≡ g b) → l ≡ marks g
+marks-from g l e h =
+    ext_get_or false l (marks g) (e ∙ sym (marks-length g)) (λ b k. h b (omega (arith, e)) ∙ sym (marks-at g b (omega (arith, e))))
+
+pub marks-same : (f g : ℕ → Bool) → ((b : ℕ) → b < 4096 → f b ≡ g b) → marks f ≡ marks g
+marks-same f g h = marks-from g (marks f) (marks-length f) (λ b l. marks-at f b l ∙ h b l)
+
+-- one of them put on or off
+pub marks-but : (g : ℕ → Bool) (b : ℕ) (on : Bool) → b < 4096 → set (marks g) b on ≡ marks (but g b on)
+marks-but g b on l = marks-from (but g b on) (set (marks g) b on) (length-set (marks g) b on ∙ marks-length g) (λ i k. go i k (eqb i b) refl)
   where
-    word : (w : ℕ) → w < 64 → ◌≡◌ {A = ℕ} (get_or (replicate n 0) w 0) 0
-    word w l = get_or-replicate {A = ℕ} n w 0 0 (subst (λ (m : ℕ). w < m) (sym e) l)
+    go : (i : ℕ) → i < 4096 → (t : Bool) → eqb i b ≡ t → get_or (set (marks g) b on) i false ≡ cond (eqb i b) on (g i)
+    go i k true e = rw (e, eqb-true i b e) (get_or-set_same (marks g) b on false (omega (arith, marks-length g)))
+    go i k false e = rw e (get_or-set_other (marks g) b i on false (eqb-false i b e) ∙ marks-at g i k)
 
--- a word that the top word does not name is zero
-word_zero : (g : ℕ → Bool) (bits : List ℕ) (top w : ℕ) → Marks g bits top → w < 64 → lit top w ≡ false → get_or bits w 0 ≡ 0
-word_zero g bits top w m l e = eqb-true (get_or bits w 0) 0 (not-false (eqb (get_or bits w 0) 0) (sym (m.some w l) ∙ e))
+-- ---- the first that is on
 
--- a number of a word that is zero is not in the set
-word_out : (g : ℕ → Bool) (bits : List ℕ) (top b : ℕ) → Marks g bits top → b < 4096 → lit top (b / 64) ≡ false → g b ≡ false
-word_out g bits top b m h e =
-    sym (m.each b h) ∙ ap (λ (n : ℕ). lit n (b % 64)) (word_zero g bits top (b / 64) m (omega arith) e) ∙ lit_zero (b % 64)
+pub record Least (g : ℕ → Bool) (r : ℕ) : Type 0 where
+  pub small : r < 4096
+  pub here : g r ≡ true
+  pub below : (i : ℕ) → i < r → g i ≡ false
 
-pub marks-empty : (g : ℕ → Bool) (bits : List ℕ) (top : ℕ) → Marks g bits top → top ≡ 0 → (b : ℕ) → b < 4096 → g b ≡ false
-marks-empty g bits top m e b h =
-    word_out g bits top b m h (ap (λ (n : ℕ). lit n (b / 64)) e ∙ lit_zero (b / 64))
+module _ (g : ℕ → Bool) where
+  at : (i : ℕ) → i ≤ 4096 → ((k : ℕ) → k < i → g k ≡ false) → (i < 4096 → g i ≡ true) → position_or_len (λ on. on) (marks g) ≡ i
+  at i l h y =
+      position_or_len_is (λ on. on) (marks g) i false (omega (arith, marks-length g)) (λ k m. marks-at g k (omega arith) ∙ h k m)
+      (λ m. marks-at g i (omega (arith, marks-length g)) ∙ y (omega (arith, marks-length g)))
 
--- ---- one number put in or out
+  pub first_none : ((b : ℕ) → b < 4096 → g b ≡ false) → None ≡ position (λ on. on) (marks g)
+  first_none h = rw (at 4096 (omega arith) h (λ l. absurd (omega arith)), marks-length g) refl
+
+  pub first_some : {r : ℕ} → Least g r → Some r ≡ position (λ on. on) (marks g)
+  first_some {r} m = rw (at r (omega (arith, m.small)) m.below (λ l. m.here), marks-length g, lt-ltb r 4096 m.small) refl
+
+  pub none_first : None ≡ position (λ on. on) (marks g) → (b : ℕ) → b < 4096 → g b ≡ false
+  none_first e b l =
+      let past = go (ltb (position_or_len (λ on. on) (marks g)) (length (marks g))) refl in
+      sym (marks-at g b l) ∙ fails_before_first (λ on. on) (marks g) b false (omega (arith, marks-length g))
+    where
+      none_ne : {i : ℕ} → ◌≡◌ {A = Option ℕ} None (Some i) → ⊥
+      none_ne k = cc
+
+      go : (t : Bool) → ltb (position_or_len (λ on. on) (marks g)) (length (marks g)) ≡ t → length (marks g) ≤ position_or_len (λ on. on) (marks g)
+      go true k = absurd (none_ne {i = position_or_len (λ on. on) (marks g)} (e ∙ rw k refl))
+      go false k = ltb-false (position_or_len (λ on. on) (marks g)) (length (marks g)) k
+
+  pub some_first : {r : ℕ} → Some r ≡ position (λ on. on) (marks g) → Least g r
+  some_first {r} e =
+      let (l, h, b) = position-Some (λ on. on) (marks g) r false (sym e) in
+      let small : r < 4096 = omega (arith, marks-length g) in
+      record { small = small; here = sym (marks-at g r small) ∙ h; below = λ i k. sym (marks-at g i (omega arith)) ∙ b i k }
+
+-- ---- the words
+
+pub topped_none : Topped (replicate 64 0) 0
+topped_none = record { each = λ w l. rw (get_or-replicate {A = ℕ} 64 w 0 0 l) (lit_zero w) }
+
+pub marks_none : marks (mark_in (replicate 64 0)) ≡ marks (λ b. false)
+marks_none = marks-same (mark_in (replicate 64 0)) (λ b. false) (λ b l. rw (get_or-replicate {A = ℕ} 64 (b / 64) 0 0 (omega arith)) (lit_zero (b % 64)))
 
 -- w is the new word of b, and r the new top word
-pub marks-but : (g : ℕ → Bool) (bits : List ℕ) (top b : ℕ) (on : Bool) (w r : ℕ) → w < 2 ^ 64 → b < 4096
-    → ((i : ℕ) → lit w i ≡ but (lit (get_or bits (b / 64) 0)) (b % 64) on i)
-    → ((i : ℕ) → lit r i ≡ but (lit top) (b / 64) (not (eqb w 0)) i)
-    → Marks g bits top → Marks (but g b on) (set bits (b / 64) w) r
-marks-but g bits top b on w r wf h pw pr m = record { len = length-set bits (b / 64) w ∙ m.len; fit = fit; each = each; some = some }
+pub topped_but : (bits : List ℕ) (top b w r : ℕ) (on : Bool) → b < 4096
+    → ((i : ℕ) → i < 64 → lit r i ≡ but (lit top) (b / 64) (not (eqb w 0)) i) → length bits ≡ 64
+    → Topped bits top → Topped (set bits (b / 64) w) r
+topped_but bits top b w r on h pr n m = record { each = λ v l. pr v l ∙ go v l (eqb v (b / 64)) refl }
   where
-    same : (v : ℕ) → v ≡ b / 64 → get_or (set bits (b / 64) w) v 0 ≡ w
-    same v s =
-        ap (λ (n : ℕ). get_or (set bits (b / 64) w) n 0) s ∙ get_or-set_same bits (b / 64) w 0 (let q = m.len in omega arith)
+    go : (v : ℕ) → v < 64 → (t : Bool) → eqb v (b / 64) ≡ t → but (lit top) (b / 64) (not (eqb w 0)) v ≡ not (eqb (get_or (set bits (b / 64) w) v 0) 0)
+    go v l true e = rw (e, eqb-true v (b / 64) e, get_or-set_same bits (b / 64) w 0 (omega (arith, n))) refl
+    go v l false e = rw (e, get_or-set_other bits (b / 64) v w 0 (eqb-false v (b / 64) e)) (m.each v l)
 
-    other : (v : ℕ) → v ≢ b / 64 → get_or (set bits (b / 64) w) v 0 ≡ get_or bits v 0
-    other v s = get_or-set_other bits (b / 64) v w 0 s
+pub mark_but : (bits : List ℕ) (b w : ℕ) (on : Bool) → b < 4096
+    → ((i : ℕ) → i < 64 → lit w i ≡ but (lit (get_or bits (b / 64) 0)) (b % 64) on i) → length bits ≡ 64
+    → marks (mark_in (set bits (b / 64) w)) ≡ set (marks (mark_in bits)) b on
+mark_but bits b w on h pw n = marks-same (mark_in (set bits (b / 64) w)) (but (mark_in bits) b on) each ∙ sym (marks-but (mark_in bits) b on h)
+  where
+    word : (i : ℕ) → i / 64 ≡ b / 64 → lit (get_or (set bits (b / 64) w) (i / 64) 0) (i % 64) ≡ but (lit (get_or bits (b / 64) 0)) (b % 64) on (i % 64)
+    word i s = rw (s, get_or-set_same bits (b / 64) w 0 (omega (arith, n))) (pw (i % 64) (omega arith))
 
-    fit : (v : ℕ) → v < 64 → get_or (set bits (b / 64) w) v 0 < 2 ^ 64
-    fit v l = go (eqb v (b / 64)) refl
-      where
-        go : (t : Bool) → eqb v (b / 64) ≡ t → get_or (set bits (b / 64) w) v 0 < 2 ^ 64
-        go true e = rw (same v (eqb-true v (b / 64) e)) wf
-        go false e = rw (other v (eqb-false v (b / 64) e)) (m.fit v l)
-
-    each : (i : ℕ) → i < 4096 → lit (get_or (set bits (b / 64) w) (i / 64) 0) (i % 64) ≡ cond (eqb i b) on (g i)
+    each : (i : ℕ) → i < 4096 → mark_in (set bits (b / 64) w) i ≡ but (mark_in bits) b on i
     each i l = go (eqb (i / 64) (b / 64)) refl (eqb (i % 64) (b % 64)) refl
       where
-        word : (t : Bool) → i / 64 ≡ b / 64 → eqb (i % 64) (b % 64) ≡ t → lit (get_or (set bits (b / 64) w) (i / 64) 0) (i % 64) ≡ cond t on (g i)
-        word t s e =
-            ap (λ (n : ℕ). lit n (i % 64)) (same (i / 64) s)
-            ∙ pw (i % 64)
-            ∙ ap₂ (λ (u : Bool) (n : ℕ). cond u on (lit (get_or bits n 0) (i % 64))) e (sym s)
-            ∙ ap (cond t on) (m.each i l)
-
-        go : (t : Bool) → eqb (i / 64) (b / 64) ≡ t → (u : Bool) → eqb (i % 64) (b % 64) ≡ u
-            → lit (get_or (set bits (b / 64) w) (i / 64) 0) (i % 64) ≡ cond (eqb i b) on (g i)
+        go : (t : Bool) → eqb (i / 64) (b / 64) ≡ t → (u : Bool) → eqb (i % 64) (b % 64) ≡ u → mark_in (set bits (b / 64) w) i ≡ but (mark_in bits) b on i
         go true e true k =
             let s : i / 64 ≡ b / 64 = eqb-true (i / 64) (b / 64) e in
             let q : i % 64 ≡ b % 64 = eqb-true (i % 64) (b % 64) k in
-            word true s k ∙ ap (λ (u : Bool). cond u on (g i)) (sym (eq-eqb i b (omega arith)))
+            word i s ∙ rw (k, eq-eqb i b (omega arith)) refl
         go true e false k =
-            word false (eqb-true (i / 64) (b / 64) e) k
-            ∙ ap (λ (u : Bool). cond u on (g i)) (sym (ne_eqb i b (λ q. eqb-false (i % 64) (b % 64) k (ap (λ (n : ℕ). n % 64) q))))
+            let s : i / 64 ≡ b / 64 = eqb-true (i / 64) (b / 64) e in
+            word i s ∙ rw (k, ne_eqb i b (λ q. eqb-false (i % 64) (b % 64) k (ap (λ (n : ℕ). n % 64) q))) (ap (λ (n : ℕ). lit (get_or bits n 0) (i % 64)) (sym s))
         go false e u k =
-            ap (λ (n : ℕ). lit n (i % 64)) (other (i / 64) (eqb-false (i / 64) (b / 64) e))
-            ∙ m.each i l
-            ∙ ap (λ (u : Bool). cond u on (g i)) (sym (ne_eqb i b (λ q. eqb-false (i / 64) (b / 64) e (ap (λ (n : ℕ). n / 64) q))))
+            rw (get_or-set_other bits (b / 64) (i / 64) w 0 (eqb-false (i / 64) (b / 64) e), ne_eqb i b (λ q. eqb-false (i / 64) (b / 64) e (ap (λ (n : ℕ). n / 64) q))) refl
 
-    some : (v : ℕ) → v < 64 → lit r v ≡ not (eqb (get_or (set bits (b / 64) w) v 0) 0)
-    some v l = pr v ∙ go (eqb v (b / 64)) refl
-      where
-        go : (t : Bool) → eqb v (b / 64) ≡ t → cond t (not (eqb w 0)) (lit top v) ≡ not (eqb (get_or (set bits (b / 64) w) v 0) 0)
-        go true e = ap (λ (n : ℕ). not (eqb n 0)) (sym (same v (eqb-true v (b / 64) e)))
-        go false e = m.some v l ∙ ap (λ (n : ℕ). not (eqb n 0)) (sym (other v (eqb-false v (b / 64) e)))
+-- ---- the least
 
--- ---- the least number
-
-module _ (bits : List ℕ) (top : ℕ) (l : top < 2 ^ 64) (ne : top ≢ 0) where
-  pub least_word : count_trailing_zeros 64 top < 64
-  least_word = (lowest-bit top l ne).small
-
-  pub marks-least : (g : ℕ → Bool) → Marks g bits top → Least g (count_trailing_zeros 64 top * 64 + count_trailing_zeros 64 (get_or bits (count_trailing_zeros 64 top) 0))
-  marks-least g m = record {
-    small = let s = p.small in let s' = q.small in omega arith;
-    here =
-        sym (m.each (i * 64 + j) (let s = p.small in let s' = q.small in omega arith))
-        ∙ ap₂ (λ (a b : ℕ). lit (get_or bits a 0) b) word bit ∙ q.here;
-    below = λ k h. go k h (ltb (k / 64) i) refl;
-  }
+module _ (bits : List ℕ) (top : ℕ) (m : Topped bits top) where
+  -- a number of a word that the top word does not name is off
+  word_out : (b : ℕ) → b < 4096 → lit top (b / 64) ≡ false → mark_in bits b ≡ false
+  word_out b h e = go (eqb (get_or bits (b / 64) 0) 0) refl
     where
-      -- the first word that is not zero
-      i : ℕ
-      i = count_trailing_zeros 64 top
+      go : (t : Bool) → eqb (get_or bits (b / 64) 0) 0 ≡ t → mark_in bits b ≡ false
+      go true z = rw (eqb-true (get_or bits (b / 64) 0) 0 z) (lit_zero (b % 64))
+      go false z = absurd (true≢false (sym (m.each (b / 64) (omega arith) ∙ ap not z) ∙ e))
 
-      p : Lowest top (count_trailing_zeros 64 top)
-      p = lowest-bit top l ne
+  pub all_out : top ≡ 0 → (b : ℕ) → b < 4096 → mark_in bits b ≡ false
+  all_out e b h = word_out b h (ap (λ (n : ℕ). lit n (b / 64)) e ∙ lit_zero (b / 64))
 
-      full : get_or bits (count_trailing_zeros 64 top) 0 ≢ 0
-      full z = true≢false (sym p.here ∙ m.some (count_trailing_zeros 64 top) p.small ∙ ap (λ (n : ℕ). not (eqb n 0)) z)
+  module _ (some : 0 < top) (fit : top < 2 ^ 64) (fits : get_or bits (trailing_zeros w64 top) 0 < 2 ^ 64) where
+    -- the first word that is not zero, and its lowest bit
+    abbrev pub word : ℕ
+    word = trailing_zeros w64 top
 
-      -- its lowest bit
-      j : ℕ
-      j = count_trailing_zeros 64 (get_or bits (count_trailing_zeros 64 top) 0)
+    abbrev pub bit : ℕ
+    bit = trailing_zeros w64 (get_or bits word 0)
 
-      q : Lowest (get_or bits (count_trailing_zeros 64 top) 0) (count_trailing_zeros 64 (get_or bits (count_trailing_zeros 64 top) 0))
-      q = lowest-bit (get_or bits (count_trailing_zeros 64 top) 0) (m.fit (count_trailing_zeros 64 top) p.small) full
+    pub word_in : word < 64
+    word_in = (bit_at-trailing_zeros w64 top some fit).0
 
-      word : (i * 64 + j) / 64 ≡ i
-      word = let s = q.small in omega arith
+    full : 0 < get_or bits word 0
+    full = go (eqb (get_or bits word 0) 0) refl
+      where
+        go : (t : Bool) → eqb (get_or bits word 0) 0 ≡ t → 0 < get_or bits word 0
+        go true z = absurd (true≢false (sym (lit_yes top word (bit_at-trailing_zeros w64 top some fit).1) ∙ m.each word word_in ∙ ap not z))
+        go false z = let ne : get_or bits word 0 ≢ 0 = eqb-false (get_or bits word 0) 0 z in omega arith
 
-      bit : (i * 64 + j) % 64 ≡ j
-      bit = let s = q.small in omega arith
+    pub bit_in : bit < 64
+    bit_in = (bit_at-trailing_zeros w64 (get_or bits word 0) full fits).0
 
-      go : (k : ℕ) → k < i * 64 + j → (t : Bool) → ltb (k / 64) i ≡ t → g k ≡ false
-      go k h true e =
-          let s = q.small in
-          let s' = p.small in
-          let b : k / 64 < i = ltb-true (k / 64) i e in
-          word_out g bits top k m (omega arith) (p.below (k / 64) b)
-      go k h false e =
-          let s = q.small in
-          let s' = p.small in
-          let b : i ≤ k / 64 = ltb-false (k / 64) i e in
-          let same : k / 64 ≡ i = omega arith in
-          sym (m.each k (omega arith)) ∙ ap (λ (n : ℕ). lit (get_or bits n 0) (k % 64)) same ∙ q.below (k % 64) (omega arith)
+    pub least_on : Least (mark_in bits) (word * 64 + bit)
+    least_on = record {
+      small = omega (arith, word_in, bit_in);
+      here = rw (at_word, at_bit) (lit_yes (get_or bits word 0) bit (bit_at-trailing_zeros w64 (get_or bits word 0) full fits).1);
+      below = λ k h. go k h (ltb (k / 64) word) refl;
+    }
+      where
+        at_word : (word * 64 + bit) / 64 ≡ word
+        at_word = omega (arith, bit_in)
+
+        at_bit : (word * 64 + bit) % 64 ≡ bit
+        at_bit = omega (arith, bit_in)
+
+        go : (k : ℕ) → k < word * 64 + bit → (t : Bool) → ltb (k / 64) word ≡ t → mark_in bits k ≡ false
+        go k h true e =
+            let b : k / 64 < word = ltb-true (k / 64) word e in
+            word_out k (omega (arith, word_in, bit_in)) (lit_no top (k / 64) ((bit_at-trailing_zeros w64 top some fit).2 (k / 64) b))
+        go k h false e =
+            let b : word ≤ k / 64 = ltb-false (k / 64) word e in
+            let same : k / 64 ≡ word = omega (arith, bit_in) in
+            rw same (lit_no (get_or bits word 0) (k % 64) ((bit_at-trailing_zeros w64 (get_or bits word 0) full fits).2 (k % 64) (omega arith)))

@@ -38,7 +38,7 @@ use Rattle.filter.specs.Peeling.{
   looking,
   looked,
 }
-use Rattle.filter.specs.Marks.{Least}
+use Rattle.filter.proofs.MarkLaws.{Least}
 use Rattle.filter.specs.Steps.{shows}
 use Rattle.filter.proofs.SetLaws.{or_swap}
 

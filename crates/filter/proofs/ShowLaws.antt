@@ -1,13 +1,13 @@
 -- The set of buckets that look pure: the code's test is the definition's at any salt, the set grows by one bucket after another,
 -- and a bucket replaced changes it there alone. Assumes nothing.
-use mathlib.Core.Path.{◌≡◌, refl, sym, ap, ap₂, subst, ◌∙◌, fun_ext}
+use mathlib.Core.Path.{◌≡◌, refl, sym, ap, ap₂, ◌∙◌}
 use mathlib.Core.Bool.{Bool, true, false, ◌&&◌, cond}
 use mathlib.Core.List.{List}
-use Prim.Native.Nat.{ℕ, ◌+◌, ◌≤◌, ◌<◌, min, zero-le}
+use Prim.Native.Nat.{ℕ, ◌+◌, ◌≤◌, ◌<◌, min}
 use native.Mathlib.Omega.{arith}
 use lib.Dec.{eqb, ltb}
 use lib.IntN.{ℤ, pos}
-use lib.ListN.{get_or}
+use lib.ListN.{get_or, set}
 use mir.Syntax.{w64}
 use mir.Val.{SFits, to_z, of_z}
 use mir.ValLaws.{to_z-of_z}
@@ -21,8 +21,9 @@ use Rattle.bucket.proofs.ColumnLaws.{place_other}
 use Rattle.bucket.proofs.PurityLaws.{pure_by_tables}
 use Rattle.filter.specs.Filter.{Rule, rule}
 use Rattle.filter.specs.Peeling.{is_pure}
-use Rattle.filter.specs.Marks.{Marks, but}
+use Rattle.filter.specs.Marks.{but, marks}
 use Rattle.filter.specs.Steps.{shows}
+use Rattle.filter.proofs.MarkLaws.{marks-same, marks-but}
 
 -- ---- the test
 
@@ -67,10 +68,6 @@ module _ (R : Rule) (f : ℕ → Bucket) where
   abbrev pub shows_below : ℕ → ℕ → Bool
   shows_below n i = ltb i n && is_pure R i (f i)
 
-  pub shows-start : (bits : List ℕ) (t : ℕ) → Marks (λ b. false) bits t → Marks (shows_below 0) bits t
-  shows-start bits t m =
-      subst (λ (g : ℕ → Bool). Marks g bits t) (fun_ext (λ i. ap (λ (u : Bool). u && is_pure R i (f i)) (sym (le-ltb i 0 zero-le)))) m
-
   but-next : (b : ℕ) (on : Bool) → on ≡ is_pure R b (f b) → (i : ℕ) → but (shows_below b) b on i ≡ shows_below (b + 1) i
   but-next b on e i = go (eqb i b) refl (ltb i b) refl
     where
@@ -87,13 +84,11 @@ module _ (R : Rule) (f : ℕ → Bucket) where
           more : b ≤ i → (i ≡ b → ⊥) → b + 1 ≤ i
           more l ne = omega arith
 
-  pub shows_on : (b : ℕ) (bits : List ℕ) (t : ℕ) (on : Bool) → on ≡ is_pure R b (f b)
-      → Marks (but (shows_below b) b on) bits t → Marks (shows_below (b + 1)) bits t
-  shows_on b bits t on e m = subst (λ (g : ℕ → Bool). Marks g bits t) (fun_ext (but-next b on e)) m
+  pub shows_on : (b : ℕ) → b < 4096 → is_pure R b (f b) ≡ true → set (marks (shows_below b)) b true ≡ marks (shows_below (b + 1))
+  shows_on b l e = marks-but (shows_below b) b true l ∙ marks-same (but (shows_below b) b true) (shows_below (b + 1)) (λ i h. but-next b true (sym e) i)
 
-  pub shows_no : (b : ℕ) (bits : List ℕ) (t : ℕ) → is_pure R b (f b) ≡ false
-      → Marks (shows_below b) bits t → Marks (shows_below (b + 1)) bits t
-  shows_no b bits t e m = subst (λ (g : ℕ → Bool). Marks g bits t) (fun_ext (λ i. sym (out i (eqb i b) refl) ∙ but-next b false (sym e) i)) m
+  pub shows_no : (b : ℕ) → is_pure R b (f b) ≡ false → marks (shows_below b) ≡ marks (shows_below (b + 1))
+  shows_no b e = marks-same (shows_below b) (shows_below (b + 1)) (λ i l. sym (out i (eqb i b) refl) ∙ but-next b false (sym e) i)
     where
       out : (i : ℕ) (u : Bool) → eqb i b ≡ u → but (shows_below b) b false i ≡ shows_below b i
       out i u h = ap (λ (v : Bool). cond v false (shows_below b i)) h ∙ go u h
@@ -104,10 +99,10 @@ module _ (R : Rule) (f : ℕ → Bucket) where
 
 -- ---- one bucket replaced
 
-pub shows-place : (R : Rule) (p : ℕ) (c : Columns) (b : Bucket) (bits : List ℕ) (top : ℕ) (on : Bool) → p < R.size
+pub shows-place : (R : Rule) (p : ℕ) (c : Columns) (b : Bucket) (on : Bool) → p < R.size → p < 4096
     → on ≡ is_pure R p (view (place c p b) p)
-    → Marks (but (shows R (view c)) p on) bits top → Marks (shows R (view (place c p b))) bits top
-shows-place R p c b bits top on l e m = subst (λ (g : ℕ → Bool). Marks g bits top) (fun_ext same) m
+    → set (marks (shows R (view c))) p on ≡ marks (shows R (view (place c p b)))
+shows-place R p c b on l h e = marks-but (shows R (view c)) p on h ∙ marks-same (but (shows R (view c)) p on) (shows R (view (place c p b))) (λ i k. same i)
   where
     same : (i : ℕ) → but (shows R (view c)) p on i ≡ shows R (view (place c p b)) i
     same i = go (eqb i p) refl

@@ -1,7 +1,7 @@
 -- An element taken out of one bucket, and one bucket after another out of all its own, with the set of buckets that look pure.
 -- Assumes nothing.
 use mathlib.Core.Path.{◌≡◌}
-use mathlib.Core.Bool.{true}
+use mathlib.Core.Bool.{Bool, true}
 use mathlib.Core.List.{List}
 use Prim.Native.Nat.{ℕ, ◌+◌, ◌^◌, ◌≤◌, ◌<◌, min}
 use native.Mathlib.Omega.{arith}
@@ -15,7 +15,7 @@ use Rattle.bucket.specs.Places.{crc_next, places, places_by}
 use Rattle.bucket.proofs.PlaceLaws as PlaceLaws
 use Rattle.filter.specs.Calls.{filled}
 use Rattle.filter.specs.Filter.{rule}
-use Rattle.filter.specs.Marks.{Marks}
+use Rattle.filter.specs.Marks.{marks}
 use Rattle.filter.specs.Steps.{Wide, Small, Sound, spread, shows}
 use Rattle.filter.proofs.FilledLaws.{wide-same}
 use Rattle.filter.proofs.NegatedLaws.{abs_neg as abs-negℤ}
@@ -34,16 +34,15 @@ taking_open c n i b w s h one = open_of n (2 ^ 61) c i (neg b).count w s (omega 
 -- ---- all its buckets
 
 -- the first j places done
-pub record Taking (k size x h : ℕ) (s : ℤ) (c₀ c : Columns) (bits : List ℕ) (t j : ℕ) : Type 0 where
+pub record Taking (k size x h : ℕ) (s : ℤ) (c₀ c : Columns) (m : List Bool) (j : ℕ) : Type 0 where
   pub taken : Added k size h (neg (bucket x h s)) c₀ c j
-  pub marks : Marks (shows (rule k size 0) (view c)) bits t
+  pub shown : m ≡ marks (shows (rule k size 0) (view c))
 
 module _ (k size x h : ℕ) (s : ℤ) (c₀ : Columns) where
-  pub taking_start : (bits : List ℕ) (t : ℕ) → Small size (2 ^ 60) c₀ → Marks (shows (rule k size 0) (view c₀)) bits t
-      → Taking k size x h s c₀ c₀ bits t 0
-  taking_start bits t a m = record { taken = added_start k size h (neg (bucket x h s)) c₀ a; marks = m }
+  pub taking_start : {m : List Bool} → Small size (2 ^ 60) c₀ → m ≡ marks (shows (rule k size 0) (view c₀)) → Taking k size x h s c₀ c₀ m 0
+  taking_start a m = record { taken = added_start k size h (neg (bucket x h s)) c₀ a; shown = m }
 
-  module _ (c : Columns) (bits : List ℕ) (t j : ℕ) (sound : Sound size k 0) (w : Wide size c₀) (g : Taking k size x h s c₀ c bits t j) where
+  module _ (c : Columns) {m : List Bool} {j : ℕ} (sound : Sound size k 0) (w : Wide size c₀) (g : Taking k size x h s c₀ c m j) where
     pub taking_wide : Wide size c
     taking_wide = wide-same size c c₀ g.taken.lengths w
 
@@ -57,12 +56,12 @@ module _ (k size x h : ℕ) (s : ℤ) (c₀ : Columns) where
       pub taking_below : j < k → get_or r j 0 < size
       taking_below l = (PlaceLaws.place crc_next k size h 4 r j found (omega (arith, l, sound.least, sound.few))).below
 
-      pub taking_next : (bits' : List ℕ) (t' : ℕ) (c' : Columns) → j < k → nat_abs s ≤ 1
-          → c' ≡ place c (get_or r j 0) (view c (get_or r j 0) ⊕ neg (bucket x h s)) → Marks (shows (rule k size 0) (view c')) bits' t'
-          → Taking k size x h s c₀ c' bits' t' (j + 1)
-      taking_next bits' t' c' l one q m = record {
+      pub taking_next : {m' : List Bool} {c' : Columns} → j < k → nat_abs s ≤ 1
+          → c' ≡ place c (get_or r j 0) (view c (get_or r j 0) ⊕ neg (bucket x h s)) → m' ≡ marks (shows (rule k size 0) (view c'))
+          → Taking k size x h s c₀ c' m' (j + 1)
+      taking_next {m'} {c'} l one q m = record {
         taken = added_next k size h (neg (bucket x h s)) c₀ c j sound w g.taken r (omega (arith, one, abs_neg (bucket x h s))) found l c' q;
-        marks = m;
+        shown = m;
       }
 
     pub taking_end : k ≤ j → c ≡ filled size (spread (places k size h) (neg (bucket x h s)) (view c₀)) c₀

@@ -1,27 +1,25 @@
 -- How the readings of strata are counted: one stratum lent alone, and all of them from the highest down, with the invariant of that loop.
 -- Assumes nothing.
 use mathlib.Core.Path.{◌≡◌, refl, sym, ap, ap₂, ◌∙◌, subst}
-use mathlib.Core.Bool.{Bool, true, false, not, cond}
+use mathlib.Core.Bool.{Bool, true, false, cond}
 use mathlib.Core.List.{List}
 use Prim.Native.Nat.{ℕ, suc, ◌+◌, ◌-◌, ◌*◌, ◌^◌, ◌≤◌, ◌<◌}
 use native.Mathlib.Omega.{arith}
-use borrow.Author.Tests.{not-true, not-false}
 use lib.IntN.{ℤ, nat_abs}
 use lib.ListN.{length}
+use Rattle.std.specs.Prelude.{Option, Some, None, is_some}
 use Rattle.bucket.specs.Bucket.{Bucket, 𝟎}
 use Rattle.bucket.specs.Columns.{Columns, view}
 use Rattle.bucket.proofs.ColumnLaws.{SameLengths}
 use Rattle.filter.specs.declared.answers.Estimate.{Estimate}
 use Rattle.filter.specs.declared.answers.Estimate.TheVariants.{Known}
 use Rattle.filter.specs.declared.answers.Verdict.{Verdict}
-use Rattle.filter.specs.declared.strata.Stratum.TheVariants.{Lists, Fails}
+use Rattle.filter.specs.declared.peeling.Lengths.{Lengths}
 use Rattle.filter.specs.Peeling.{Outcome, all_zero, verdict_by, is_complete, reading}
 use Rattle.filter.specs.Calls.{filled}
 use Rattle.filter.specs.Estimator.{stratum_rule, stratum, strata_verdict, reading_at, readings, sampled, estimate_of, left_by, left_at, remaining}
-use Rattle.filter.specs.Repeats.{Trees}
 use Rattle.filter.specs.Steps.{Wide, Small, Peels, counted}
 use Rattle.filter.proofs.FilledLaws.{
-  lengths_refl,
   lengths_trans,
   filled_is_lengths,
   wide-same,
@@ -36,27 +34,24 @@ use Rattle.filter.proofs.StrataLaws.{with_stratum-out, view_with_stratum, estima
 
 -- ---- one stratum, lent alone
 
-module _ (q : Outcome) (c₀ c : Columns) {o₀ t₀ : List ℕ} {fine : Bool} {o t : List ℕ} {a b : ℕ} (p : Peels 79 q c₀ o₀ t₀ fine c o t a b) where
-  pub part-few : a + b ≤ 79
-  part-few = omega (arith, listed-count o₀ t₀ p.some o t a b p.listed-some, p.few)
-
+module _ {q : Outcome} {c₀ c : Columns} {o₀ t₀ : List ℕ} {r : Option Lengths} {o t : List ℕ} (p : Peels 79 q c₀ o₀ t₀ r c o t) (w : Wide 79 c₀) where
   -- a peeling that is not in order leaves a false stratum, which is then made zero
-  pub part_false : {c' : Columns} → Wide 79 c₀ → not fine ≡ true → c' ≡ filled 79 (λ i. 𝟎) c
-      → (Fails ≡ counted q) × (c' ≡ filled 79 (left_by (strata_verdict q) q) c₀)
-  part_false w h e = (
-    sym (ap (λ (f : Bool). cond (is_complete (verdict_by f (all_zero q.rest 79) true)) (Lists (length q.listed)) Fails) bad),
+  pub part_false : {c' : Columns} → r ≡ None → c' ≡ filled 79 (λ i. 𝟎) c
+      → (None ≡ counted q) × (c' ≡ filled 79 (left_by (strata_verdict q) q) c₀)
+  part_false h e = (
+    sym (ap (λ (f : Bool). cond (is_complete (verdict_by f (all_zero q.rest 79) true)) (Some (length q.listed)) None) bad),
     e ∙ ap (filled 79 (λ i. 𝟎)) p.kept ∙ filled-filled 79 p.rest (λ i. 𝟎) c₀ w
         ∙ filled_cong 79 (λ i. 𝟎) (left_by (strata_verdict q) q) c₀
         (λ i k. sym (ap (λ (f : Bool). left_by (verdict_by f (all_zero q.rest 79) true) q i) bad)),
   )
     where
       bad : q.fine ≡ false
-      bad = sym p.fine_is ∙ not-true fine h
+      bad = sym p.fine_is ∙ ap is_some h
 
   -- one in order is complete where it left zeros, and otherwise stuck
-  module _ (z : Bool) (w : Wide 79 c₀) (h : not fine ≡ false) (e : z ≡ all_zero (view c) 79) where
-    ok : fine ≡ true
-    ok = not-false fine h
+  module _ {m : Lengths} (h : r ≡ Some m) {z : Bool} (e : z ≡ all_zero (view c) 79) where
+    ok : is_some r ≡ true
+    ok = ap is_some h
 
     verdict-fine : strata_verdict q ≡ verdict_by true z true
     verdict-fine =
@@ -64,14 +59,14 @@ module _ (q : Outcome) (c₀ c : Columns) {o₀ t₀ : List ℕ} {fine : Bool} {
         (sym (e ∙ ap (λ (d : Columns). all_zero (view d) 79) (p.rest_is ok)
         ∙ all_zero_cong (view (filled 79 q.rest c₀)) q.rest 79 (λ i k. view-filled_in 79 q.rest c₀ i w k)))
 
-    counted-fine : (x : Bool) → z ≡ x → counted q ≡ cond (is_complete (verdict_by true x true)) (Lists (length q.listed)) Fails
-    counted-fine x k = ap (λ (v : Verdict). cond (is_complete v) (Lists (length q.listed)) Fails) (verdict-fine ∙ ap (λ (t : Bool). verdict_by true t true) k)
+    counted-fine : (x : Bool) → z ≡ x → counted q ≡ cond (is_complete (verdict_by true x true)) (Some (length q.listed)) None
+    counted-fine x k = ap (λ (v : Verdict). cond (is_complete v) (Some (length q.listed)) None) (verdict-fine ∙ ap (λ (t : Bool). verdict_by true t true) k)
 
-    pub part-stuck : not z ≡ true → Fails ≡ counted q
-    part-stuck k = sym (counted-fine false (not-true z k))
+    pub part-stuck : z ≡ false → None ≡ counted q
+    part-stuck k = sym (counted-fine false k)
 
-    pub part-whole : not z ≡ false → Lists (a + b) ≡ counted q
-    part-whole k = ap Lists (listed-count o₀ t₀ q.listed o t a b (p.listed_is ok)) ∙ sym (counted-fine true (not-false z k))
+    pub part-whole : z ≡ true → Some (m.ours + m.theirs) ≡ counted q
+    part-whole k = ap Some (listed-count o₀ t₀ q.listed o t m.ours m.theirs (p.listed_is m h)) ∙ sym (counted-fine true k)
 
     pub part_left : c ≡ filled 79 (left_by (strata_verdict q) q) c₀
     part_left =
@@ -85,26 +80,26 @@ module _ (q : Outcome) (c₀ c : Columns) {o₀ t₀ : List ℕ} {fine : Bool} {
 -- ---- how a reading was counted says how it ended
 
 module _ (r : Outcome) where
-  lists : {n : ℕ} → Lists n ≡ counted r → (is_complete (strata_verdict r) ≡ true) × (n ≡ length r.listed)
+  lists : {n : ℕ} → Some n ≡ counted r → (is_complete (strata_verdict r) ≡ true) × (n ≡ length r.listed)
   lists {n} = by (is_complete (strata_verdict r))
     where
-      by : (b : Bool) → Lists n ≡ cond b (Lists (length r.listed)) Fails → (b ≡ true) × (n ≡ length r.listed)
+      by : (b : Bool) → Some n ≡ cond b (Some (length r.listed)) None → (b ≡ true) × (n ≡ length r.listed)
       by true e = (refl, cc)
       by false e = (cc, cc)
 
-  fails : Fails ≡ counted r → is_complete (strata_verdict r) ≡ false
+  fails : None ≡ counted r → is_complete (strata_verdict r) ≡ false
   fails = by (is_complete (strata_verdict r))
     where
-      by : (b : Bool) → Fails ≡ cond b (Lists (length r.listed)) Fails → b ≡ false
+      by : (b : Bool) → None ≡ cond b (Some (length r.listed)) None → b ≡ false
       by true e = cc
       by false e = refl
 
-pub lists-few : (salt : ℕ) (f : ℕ → Bucket) {n : ℕ} → Lists n ≡ counted (reading (stratum_rule salt) f) → n ≤ 79
+pub lists-few : (salt : ℕ) (f : ℕ → Bucket) {n : ℕ} → Some n ≡ counted (reading (stratum_rule salt) f) → n ≤ 79
 lists-few salt f k = omega (arith, (lists (reading (stratum_rule salt) f) k).1, listed-few (stratum_rule salt) f)
 
 -- ---- the invariant: strata n and above were read and are counted in the total
 
-pub record Tally (salt : ℕ) (c₀ c : Columns) (heads links seen : List ℕ) (total n : ℕ) : Type 0 where
+pub record Tally (salt : ℕ) (c₀ c : Columns) (total n : ℕ) : Type 0 where
   pub few : n ≤ 32
   pub wide : Wide 2528 c
   pub lengths : SameLengths c c₀
@@ -112,20 +107,6 @@ pub record Tally (salt : ℕ) (c₀ c : Columns) (heads links seen : List ℕ) (
   pub bound : total ≤ 79 * (32 - n)
   pub estimate : estimate_of total (readings salt n (view c)) ≡ estimate_of 0 (readings salt 32 (view c₀))
   pub left : filled 2528 (remaining salt n (view c)) c ≡ filled 2528 (remaining salt 32 (view c₀)) c₀
-  pub trees : Trees 0 heads links seen
-
-pub tally_start : (salt : ℕ) (c : Columns) (heads links seen : List ℕ) → Wide 2528 c → Small 2528 (2 ^ 34) c → Trees 0 heads links seen
-    → Tally salt c c heads links seen 0 32
-tally_start salt c heads links seen w s h = record {
-  few = omega arith;
-  wide = w;
-  lengths = lengths_refl c;
-  small = s;
-  bound = omega arith;
-  estimate = refl;
-  left = refl;
-  trees = h;
-}
 
 module _ (salt m : ℕ) (c c' : Columns) (h : m < 32) (w : Wide 2528 c) (e : c' ≡ filled 2528 (left_at salt m (view c)) c) where
   view-left : view c' ≡ left_at salt m (view c)
@@ -159,16 +140,15 @@ module _ (salt m : ℕ) (c c' : Columns) (h : m < 32) (w : Wide 2528 c) (e : c' 
     all = λ i k. subst (λ (z : ℤ). nat_abs z < 2 ^ 34) (sym (ap (λ (b : Bucket). b.count) (below_left i k))) (s.all i (omega (arith, k)));
   }
 
-module _ {salt : ℕ} {c₀ c : Columns} {heads links seen : List ℕ} {total : ℕ} where
-  module _ (m : ℕ) (c' : Columns) {n : ℕ} (t : Tally salt c₀ c heads links seen total n) (p : n ≡ suc m)
+module _ {salt : ℕ} {c₀ c : Columns} {total : ℕ} where
+  module _ (m : ℕ) (c' : Columns) {n : ℕ} (t : Tally salt c₀ c total n) (p : n ≡ suc m)
       (e : c' ≡ filled 2528 (left_at salt m (view c)) c) where
-    now_at : Tally salt c₀ c heads links seen total (suc m)
-    now_at = subst (Tally salt c₀ c heads links seen total) p t
+    now_at : Tally salt c₀ c total (suc m)
+    now_at = subst (Tally salt c₀ c total) p t
 
     -- stratum m is complete
-    pub tally_next : {listed : ℕ} {heads' links' seen' : List ℕ} → Lists listed ≡ counted (reading_at salt m (view c)) → Trees 0 heads' links' seen'
-        → Tally salt c₀ c' heads' links' seen' (total + listed) m
-    tally_next {listed} k trees =
+    pub tally_next : {listed : ℕ} → Some listed ≡ counted (reading_at salt m (view c)) → Tally salt c₀ c' (total + listed) m
+    tally_next {listed} k =
         let ended = lists (reading_at salt m (view c)) k in
         let in_range_lem : m < 32 = omega (arith, now_at.few) in
         let same = filled_is_lengths 2528 (left_at salt m (view c)) c c' e in record {
@@ -179,11 +159,10 @@ module _ {salt : ℕ} {c₀ c : Columns} {heads links seen : List ℕ} {total : 
           bound = omega (arith, now_at.bound, in_range_lem, lists-few salt (stratum m (view c)) k);
           estimate = next-estimate salt m c c' in_range_lem t.wide e total listed ended.0 ended.1 ∙ now_at.estimate;
           left = next-left salt m c c' in_range_lem t.wide e ended.0 ∙ now_at.left;
-          trees = trees;
         }
 
     -- stratum m is not complete
-    pub tally_stop : {r : Estimate} → Fails ≡ counted (reading_at salt m (view c)) → r ≡ sampled total m
+    pub tally_stop : {r : Estimate} → None ≡ counted (reading_at salt m (view c)) → r ≡ sampled total m
         → (r ≡ estimate_of 0 (readings salt 32 (view c₀))) × (c' ≡ filled 2528 (remaining salt 32 (view c₀)) c₀)
     unfolding remaining
     tally_stop k s =
@@ -193,7 +172,7 @@ module _ {salt : ℕ} {c₀ c : Columns} {heads links seen : List ℕ} {total : 
         )
 
   -- all are complete
-  pub tally_end : {n : ℕ} → Tally salt c₀ c heads links seen total n → n ≡ 0
+  pub tally_end : {n : ℕ} → Tally salt c₀ c total n → n ≡ 0
       → (Known total ≡ estimate_of 0 (readings salt 32 (view c₀))) × (c ≡ filled 2528 (remaining salt 32 (view c₀)) c₀)
   unfolding readings estimate_of remaining
   tally_end t z = (

@@ -11,10 +11,10 @@
 --   shows R f            the buckets below the size that look pure
 --   Listed ..            two lists hold the IDs of items, in peel order
 --   Peels ..             what a peeling leaves
---   counted r            how a stratum's reading is counted
+--   counted r            how many IDs a stratum lists, if it is complete
 --
 -- Assumes nothing.
-use Rattle.std.specs.Prelude.{◌≡◌, Bool, true, false, not, ◌&&◌, cond, List, [], ◌∷◌, map, reverse, ℕ, zero, suc, ◌+◌, ◌*◌, min, ◌≤◌, ◌<◌, ltb, ℤ, pos, neg_ℤ, nat_abs, length, get_or, set}
+use Rattle.std.specs.Prelude.{◌≡◌, Bool, true, false, not, ◌&&◌, cond, List, [], ◌∷◌, map, reverse, ℕ, zero, suc, ◌+◌, ◌*◌, min, ◌≤◌, ◌<◌, ltb, ℤ, pos, neg_ℤ, nat_abs, length, get_or, set, Option, Some, None, is_some}
 use Rattle.bucket.specs.Bucket.{Bucket, ◌⊕◌, 𝟎}
 use Rattle.bucket.specs.Columns.{Columns}
 use Rattle.bucket.specs.Counts.{stratum_of}
@@ -22,8 +22,7 @@ use Rattle.bucket.specs.Crc.{crc_of}
 use Rattle.bucket.specs.Lists.{elem, over}
 use Rattle.bucket.specs.Places.{places}
 use Rattle.bucket.specs.Salt.{salted, unsalted}
-use Rattle.filter.specs.declared.strata.Stratum.{Stratum}
-use Rattle.filter.specs.declared.strata.Stratum.TheVariants.{Lists, Fails}
+use Rattle.filter.specs.declared.peeling.Lengths.{Lengths}
 use Rattle.filter.specs.Table.{first_eight, is_table}
 use Rattle.filter.specs.Filter.{Item, Rule, ours_of, theirs_of}
 use Rattle.filter.specs.Peeling.{Outcome, is_pure, is_complete}
@@ -91,18 +90,21 @@ pub record Listed (o₀ t₀ : List ℕ) (acc : List Item) (o t : List ℕ) (a b
   pub ours-count : a ≡ length (ours_of acc)
   pub theirs-count : b ≡ length (theirs_of acc)
 
--- q is the definition's peeling; c₀, o₀ and t₀ are the columns and lists before
-pub record Peels (size : ℕ) (q : Outcome) (c₀ : Columns) (o₀ t₀ : List ℕ) (fine : Bool) (c : Columns) (o t : List ℕ) (a b : ℕ) : Type 0 where
-  pub fine_is : fine ≡ q.fine
-  pub rest_is : fine ≡ true → c ≡ filled size q.rest c₀
-  pub listed_is : fine ≡ true → Listed o₀ t₀ q.listed o t a b
+-- q is the definition's peeling, r what was listed if it was in order; c₀, o₀ and t₀ are the columns and lists before
+pub record Peels (size : ℕ) (q : Outcome) (c₀ : Columns) (o₀ t₀ : List ℕ) (r : Option Lengths) (c : Columns) (o t : List ℕ) : Type 0 where
+  pub fine_is : is_some r ≡ q.fine
+  pub rest_is : is_some r ≡ true → c ≡ filled size q.rest c₀
+  pub listed_is : (n : Lengths) → r ≡ Some n → Listed o₀ t₀ q.listed o t n.ours n.theirs
+  pub listed_few : (n : Lengths) → r ≡ Some n → n.ours + n.theirs ≤ size
   -- in any case: only the first size places have changed
   pub some : List Item
-  pub listed-some : Listed o₀ t₀ some o t a b
+  pub ours-some : ℕ
+  pub theirs-some : ℕ
+  pub listed-some : Listed o₀ t₀ some o t ours-some theirs-some
   pub few : length some ≤ size
   pub rest : ℕ → Bucket
   pub kept : c ≡ filled size rest c₀
 
 -- r is the definition's reading of the stratum
-abbrev pub counted : Outcome → Stratum
-counted r = cond (is_complete (strata_verdict r)) (Lists (length r.listed)) Fails
+abbrev pub counted : Outcome → Option ℕ
+counted r = cond (is_complete (strata_verdict r)) (Some (length r.listed)) None

@@ -10,6 +10,7 @@ ghost use Rattle.filter.specs.Steps.{Ready, Received, Wide, Peels};
 
 use crate::answers::{Reading, Refusal, Verdict};
 use crate::peeling::Peeled;
+use crate::repeats::Trees;
 
 // Reads the difference of our table and a received filter, at a size and a salt, into two lists: IDs that are only ours, and only theirs.
 // Refused: a bad table or a COUNT outside 0 to 2^32 − 1, then a size or salt out of range, then a column or list shorter than size; then
@@ -78,19 +79,14 @@ fn read_difference(
         ≡ read_by (ids_of first_eight table.now) size salt (columns ids.old hashes.old counts.old) ours.old theirs.old }
 {
     let p = peel_difference(table, ids, hashes, counts, ours, theirs, size, salt);
-    let a = p.ours;
-    let b = p.theirs;
     let l = p.looked;
-    let v = crate::judging::judge(
-        table,
-        ids,
-        hashes,
-        counts,
-        &ours[..a],
-        &theirs[..b],
-        p.fine,
-        size,
-    );
+    let Some(n) = p.listed else {
+        clear_all(ids, hashes, counts, ours, theirs, size as usize);
+        return Reading::Untrue { looked: p.looked };
+    };
+    let a = n.ours;
+    let b = n.theirs;
+    let v = crate::judging::judge(table, ids, hashes, counts, ours, theirs, true, a, b, size);
     match v {
         Verdict::Complete => Reading::Complete {
             ours: a,
@@ -130,7 +126,7 @@ fn has_all_room(
         & crate::forms::lists_have_room(ours, theirs, size)
 }
 
-// The CRC tables, and the arrays in which repeats are found, are made once a call and lent down.
+// The CRC tables, and the trees in which repeats are found, are made once a call and lent down.
 fn peel_difference(
     table: &[u8],
     ids: &mut [u64],
@@ -143,8 +139,8 @@ fn peel_difference(
 ) -> Peeled
     requires { Ready size salt table.now (columns ids.old hashes.old counts.old) ours.old theirs.old }
     ensures { Peels size (outcome_of (ids_of first_eight table.now) size salt (columns ids.old hashes.old counts.old))
-        (columns ids.old hashes.old counts.old) (listed_into size [] ours.old) (listed_into size [] theirs.old) result.fine
-        (columns ids.new hashes.new counts.new) ours.new theirs.new result.ours result.theirs
+        (columns ids.old hashes.old counts.old) (listed_into size [] ours.old) (listed_into size [] theirs.old) result.listed
+        (columns ids.new hashes.new counts.new) ours.new theirs.new
         × (result.looked ≡ looked_of (ids_of first_eight table.now) size salt (columns ids.old hashes.old counts.old)) }
 {
     let tab = bucket::crc::tables();
@@ -152,11 +148,9 @@ fn peel_difference(
     crate::clearing::clear_list(ours, size as usize);
     crate::clearing::clear_list(theirs, size as usize);
     let k = bucket::places::place_count(size);
-    let mut heads = [0u16; 4096];
-    let mut links = [0u16; 8192];
-    let mut seen = [0u64; 4096];
+    let mut trees = Trees::new();
     crate::peeling::peel(
-        &tab, ids, hashes, counts, ours, theirs, &mut heads, &mut links, &mut seen, size, salt, k,
+        &tab, ids, hashes, counts, ours, theirs, &mut trees, size, salt, k,
     )
 }
 

@@ -5,10 +5,10 @@ ghost use Rattle.bucket.specs.Crc.{crc_tables};
 ghost use Rattle.filter.specs.Peeling.{reading};
 ghost use Rattle.filter.specs.Calls.{filled};
 ghost use Rattle.filter.specs.Estimator.{stratum_rule, strata_verdict, reading_at, readings, sampled, estimate_of, left_by, left_at, remaining, less};
-ghost use Rattle.filter.specs.Repeats.{Trees};
 ghost use Rattle.filter.specs.Steps.{Wide, Small, counted};
 
 use crate::answers::Estimate;
+use crate::repeats::Trees;
 
 // The first n buckets become themselves minus the others.
 pub(crate) fn subtract(
@@ -26,14 +26,10 @@ pub(crate) fn subtract(
         ≡ filled n (less (view (columns ids.old hashes.old counts.old)) (view (columns ids2.now hashes2.now counts2.now)))
         (columns ids.old hashes.old counts.old) }
 {
-    let mut i: usize = 0;
-    while i < n {
-        ids[i] = ids[i] ^ ids2[i];
-        hashes[i] = hashes[i] ^ hashes2[i];
-        let c = counts[i];
-        let d = counts2[i];
-        counts[i] = c - d;
-        i += 1;
+    for i in 0..n {
+        ids[i] ^= ids2[i];
+        hashes[i] ^= hashes2[i];
+        counts[i] -= counts2[i];
     }
 }
 
@@ -52,17 +48,11 @@ pub(crate) fn read_all(
         ≡ filled 2528 (remaining salt 32 (view (columns ids.old hashes.old counts.old)))
         (columns ids.old hashes.old counts.old)) }
 {
-    let mut heads = [0u16; 4096];
-    let mut links = [0u16; 8192];
-    let mut seen = [0u64; 4096];
+    let mut trees = Trees::new();
     let mut total: u64 = 0;
-    let mut n: usize = 32;
-    while 0 < n {
-        n -= 1;
-        let Stratum::Lists(listed) = read_one(
-            tab, ids, hashes, counts, &mut heads, &mut links, &mut seen, n, salt,
-        ) else {
-            return sample(total, n);
+    for i in (0..32).rev() {
+        let Some(listed) = read_one(tab, ids, hashes, counts, &mut trees, i, salt) else {
+            return sample(total, i);
         };
         total += listed as u64;
     }
@@ -71,7 +61,8 @@ pub(crate) fn read_all(
 
 // The estimate where stratum i is the first that is not complete, and the total is listed above it: of nothing, nothing is known.
 fn sample(total: u64, i: usize) -> Estimate
-    requires { (total < 4096) × (i < 32) }
+    requires few { total < 4096 }
+    requires inside { i < 32 }
     ensures { result ≡ sampled total i }
 {
     if total == 0 {
@@ -80,32 +71,25 @@ fn sample(total: u64, i: usize) -> Estimate
     Estimate::Known(total << (i + 1))
 }
 
-// How a stratum's reading is counted: how many IDs it lists, if it is complete.
-#[derive(Drop)]
-enum Stratum {
-    Lists(usize),
-    Fails,
-}
-
-// Reads stratum s.
+// How many IDs stratum s lists, if it is complete.
 fn read_one(
     tab: &[u32; 2048],
     ids: &mut [u64],
     hashes: &mut [u32],
     counts: &mut [i64],
-    heads: &mut [u16; 4096],
-    links: &mut [u16; 8192],
-    seen: &mut [u64; 4096],
+    trees: &mut Trees,
     s: usize,
     salt: u32,
-) -> Stratum
-    requires { (tab.now ≡ crc_tables) × (salt < 64) × (s < 32) × Wide 2528 (columns ids.old hashes.old counts.old)
-        × Small (79 * (s + 1)) (2 ^ 34) (columns ids.old hashes.old counts.old) × Trees 0 heads.old links.old seen.old }
-    ensures { (result ≡ counted (reading_at salt s (view (columns ids.old hashes.old counts.old))))
-        × (columns ids.new hashes.new counts.new
+) -> Option<usize>
+    requires tables { tab.now ≡ crc_tables }
+    requires salt_in { salt < 64 }
+    requires inside { s < 32 }
+    requires wide { Wide 2528 (columns ids.old hashes.old counts.old) }
+    requires small { Small (79 * (s + 1)) (2 ^ 34) (columns ids.old hashes.old counts.old) }
+    ensures listed { result ≡ counted (reading_at salt s (view (columns ids.old hashes.old counts.old))) }
+    ensures left { columns ids.new hashes.new counts.new
         ≡ filled 2528 (left_at salt s (view (columns ids.old hashes.old counts.old)))
-        (columns ids.old hashes.old counts.old))
-        × Trees 0 heads.new links.new seen.new }
+        (columns ids.old hashes.old counts.old) }
 {
     let a = 79 * s;
     let e = a + 79;
@@ -114,32 +98,29 @@ fn read_one(
         &mut ids[a..e],
         &mut hashes[a..e],
         &mut counts[a..e],
-        heads,
-        links,
-        seen,
+        trees,
         salt,
     )
 }
 
-// Reads one stratum, lent alone. A false one is left zero.
+// The same of one stratum, lent alone. A false one is left zero.
 fn read_part(
     tab: &[u32; 2048],
     ids: &mut [u64],
     hashes: &mut [u32],
     counts: &mut [i64],
-    heads: &mut [u16; 4096],
-    links: &mut [u16; 8192],
-    seen: &mut [u64; 4096],
+    trees: &mut Trees,
     salt: u32,
-) -> Stratum
-    requires { (tab.now ≡ crc_tables) × (salt < 64) × Wide 79 (columns ids.old hashes.old counts.old)
-        × Small 79 (2 ^ 34) (columns ids.old hashes.old counts.old) × Trees 0 heads.old links.old seen.old }
-    ensures { (result ≡ counted (reading (stratum_rule salt) (view (columns ids.old hashes.old counts.old))))
-        × (columns ids.new hashes.new counts.new
+) -> Option<usize>
+    requires tables { tab.now ≡ crc_tables }
+    requires salt_in { salt < 64 }
+    requires wide { Wide 79 (columns ids.old hashes.old counts.old) }
+    requires small { Small 79 (2 ^ 34) (columns ids.old hashes.old counts.old) }
+    ensures listed { result ≡ counted (reading (stratum_rule salt) (view (columns ids.old hashes.old counts.old))) }
+    ensures left { columns ids.new hashes.new counts.new
         ≡ filled 79 (left_by (strata_verdict (reading (stratum_rule salt) (view (columns ids.old hashes.old counts.old))))
         (reading (stratum_rule salt) (view (columns ids.old hashes.old counts.old))))
-        (columns ids.old hashes.old counts.old))
-        × Trees 0 heads.new links.new seen.new }
+        (columns ids.old hashes.old counts.old) }
 {
     let mut ours = [0u64; 79];
     let mut theirs = [0u64; 79];
@@ -150,19 +131,17 @@ fn read_part(
         counts,
         &mut ours,
         &mut theirs,
-        heads,
-        links,
-        seen,
+        trees,
         79,
         salt,
         3,
     );
-    if !p.fine {
+    let Some(listed) = p.listed else {
         crate::clearing::clear_columns(ids, hashes, counts, 79);
-        return Stratum::Fails;
-    }
+        return None;
+    };
     if !crate::judging::all_zero(ids, hashes, counts, 79) {
-        return Stratum::Fails;
+        return None;
     }
-    Stratum::Lists(p.ours + p.theirs)
+    Some(listed.ours + listed.theirs)
 }

@@ -1,67 +1,39 @@
-use mathlib.Core.Path.{◌≡◌, subst}
 use native.Mathlib.Omega.{arith}
-use lib.IntN.{ℤ}
+use lib.ListN.{length-take}
+use lib.Seq.{get_or-take}
 use mir.Syntax.{w64}
-use mir.Val.{to_z, of_z}
 use mir.ValLaws.{to_z-of_z}
-use Rattle.bucket.specs.Bucket.{bucket, neg}
-use Rattle.bucket.specs.Columns.{Columns, columns, view}
-use Rattle.bucket.specs.Places.{places}
-use Rattle.filter.specs.Calls.{filled}
-use Rattle.filter.specs.Steps.{spread}
 use Rattle.filter.proofs.TakingLaws.{taking_start, taking_wide, taking_small, taking_below, taking_next, taking_end}
 use Rattle.filter.proofs.peeling.take_out.Goals as goal
 
-pub loop-j-init : goal.loop-j-init
-loop-j-init c = let a = c.args in
-    let was : Columns = columns a.ids.now a.hashes.now a.counts.now in
-    taking_start a.k a.size a.x a.h (to_z w64 (of_z w64 a.s)) was a.bits.now a.top c.requires.4 c.requires.5
+pub loop-b-init : goal.loop-b-init
+loop-b-init c = taking_start c.args.k c.args.size c.args.x c.args.h _ _ c.requires.small c.requires.shown
 
-pub settle-t-requires : goal.settle-t-requires
-settle-t-requires c = let a = c.args in
-    let w = c.loop-j in
+pub settle-requires : goal.settle-requires
+settle-requires c = let a = c.args in
+    let j = c.loop-b.b-index in
+    let w = c.loop-b.invariant in
     let p = c.places-p in
-    let was : Columns = columns a.ids.now a.hashes.now a.counts.now in
-    let is : Columns = columns w.ids w.hashes w.counts in
-    let z = to_z w64 (of_z w64 a.s) in (
-      c.requires.0,
-      c.requires.1,
-      taking_below a.k a.size a.x a.h z was is w.bits w.t w.j c.requires.1 c.requires.2 w.invariant a.tab.now p.result c.requires.0 p.ensures
-          c.loop-j-test.true,
-      taking_wide a.k a.size a.x a.h z was is w.bits w.t w.j c.requires.1 c.requires.2 w.invariant,
-      rw (to_z-of_z w64 a.s c.ranges.s) c.requires.3,
-      taking_small a.k a.size a.x a.h z was is w.bits w.t w.j c.requires.1 c.requires.2 w.invariant,
-      w.invariant.marks,
-    )
+    let place = get_or-take a.k p.result j 0 (omega (arith, length-take a.k p.result)) in
+    let sound = c.requires.sound in
+    let wide = c.requires.wide in record {
+      tables = c.requires.tables;
+      sound = sound;
+      inside = rw place (taking_below a.k a.size a.x a.h _ _ _ sound wide w a.tab.now p.result c.requires.tables p.ensures (omega (arith, length-take a.k p.result)));
+      wide = taking_wide a.k a.size a.x a.h _ _ _ sound wide w;
+      small = taking_small a.k a.size a.x a.h _ _ _ sound wide w;
+      one = rw (to_z-of_z w64 a.s c.ranges.s) c.requires.one;
+      shown = w.shown;
+    }
 
-pub loop-j-preserved : goal.loop-j-preserved
-loop-j-preserved c = let a = c.args in
-    let w = c.loop-j in
+pub loop-b-preserved : goal.loop-b-preserved
+loop-b-preserved c = let a = c.args in
     let p = c.places-p in
-    let t = c.settle-t in
-    let was : Columns = columns a.ids.now a.hashes.now a.counts.now in
-    taking_next a.k a.size a.x a.h (to_z w64 (of_z w64 a.s)) was (columns w.ids w.hashes w.counts) w.bits w.t w.j
-    c.requires.1 c.requires.2 w.invariant a.tab.now p.result c.requires.0 p.ensures
-    t.new.bits t.result (columns t.new.ids t.new.hashes t.new.counts)
-    c.loop-j-test.true
-    (rw (to_z-of_z w64 a.s c.ranges.s) c.requires.3) t.ensures.0 t.ensures.1
+    let place = get_or-take a.k p.result c.loop-b.b-index 0 (omega (arith, length-take a.k p.result)) in
+    taking_next a.k a.size a.x a.h _ _ _ c.requires.sound c.requires.wide c.loop-b.invariant a.tab.now p.result c.requires.tables p.ensures
+    (omega (arith, length-take a.k p.result)) (rw (to_z-of_z w64 a.s c.ranges.s) c.requires.one) (rw place at c.settle.ensures.taken) c.settle.ensures.shown
 
-pub shape_of-ids : goal.shape_of-ids
-shape_of-ids c = c.loop-j.invariant.taken.lengths.0
-
-pub shape_of-hashes : goal.shape_of-hashes
-shape_of-hashes c = c.loop-j.invariant.taken.lengths.1
-
-pub shape_of-counts : goal.shape_of-counts
-shape_of-counts c = c.loop-j.invariant.taken.lengths.2
-
-pub returns : goal.returns
-returns c = let a = c.args in
-    let w = c.loop-j in
-    let was : Columns = columns a.ids.now a.hashes.now a.counts.now in
-    let is : Columns = columns w.ids w.hashes w.counts in (
-      subst (λ (z : ℤ). is ≡ filled a.size (spread (places a.k a.size a.h) (neg (bucket a.x a.h z)) (view was)) was)
-          (to_z-of_z w64 a.s c.ranges.s)
-          (taking_end a.k a.size a.x a.h (to_z w64 (of_z w64 a.s)) was is w.bits w.t w.j c.requires.1 c.requires.2 w.invariant (omega arith)),
-      w.invariant.marks,
-    )
+pub returns-clause-taken : goal.returns-clause-taken
+returns-clause-taken c = let a = c.args in
+    rw (to_z-of_z w64 a.s c.ranges.s) at
+    (taking_end a.k a.size a.x a.h _ _ _ c.requires.sound c.requires.wide c.loop-b.invariant (omega (arith, length-take a.k c.places-p.result, c.requires.sound.few)))

@@ -1,6 +1,6 @@
 -- `reading::peel_difference` meets its contract: the columns hold the difference and the lists zeros, and the peeling is the definition's.
 -- Assumes nothing.
-use mathlib.Core.Path.{refl, sym, subst, ◌∙◌}
+use mathlib.Core.Path.{sym, subst}
 use mathlib.Core.List.{[]}
 use Prim.Native.Nat.{ℕ, ◌≤◌, ◌^◌}
 use native.Mathlib.Omega.{arith}
@@ -13,7 +13,6 @@ use Rattle.filter.specs.Filter.{filter_rule, difference}
 use Rattle.filter.specs.Steps.{Wide, Small}
 use Rattle.filter.proofs.FilledLaws.{wide-filled}
 use Rattle.filter.proofs.PartLaws.{range-sound, small-difference}
-use Rattle.filter.proofs.RepeatLaws.{trees-start}
 use Rattle.filter.proofs.TableLaws.{table-count, ids-length}
 use Rattle.filter.proofs.CallLaws.{listed-length, peels_call, looked_call}
 use Rattle.filter.proofs.reading.peel_difference.Goals as goal
@@ -31,34 +30,24 @@ minus c = let a = c.args in
 pub peel-requires : goal.peel-requires
 peel-requires c = let a = c.args in
     let r = c.requires.received in
-    let e = c.subtract.ensures in (
-      c.tables-tab.ensures,
-      rw c.place_count-k.ensures (range-sound a.size a.salt r.range),
-      subst (Wide a.size) (sym e) (wide-filled a.size a.size (minus (goal.at.peel-requires c).Start) (received (goal.at.peel-requires c).Start) r.wide),
-      subst (λ l. a.size ≤ length l) (sym c.clear_list.ensures)
-          (omega (arith, listed-length a.size [] a.ours.now (omega arith) c.requires.ours-room, c.requires.ours-room)),
-      subst (λ l. a.size ≤ length l) (sym c.clear_list-2.ensures)
-          (omega (arith, listed-length a.size [] a.theirs.now (omega arith) c.requires.theirs-room, c.requires.theirs-room)),
-      subst (Small a.size (2 ^ 34)) (sym e)
+    let e = c.subtract.ensures in record {
+      tables = c.tables-tab.ensures;
+      sound = rw c.place_count-k.ensures (range-sound a.size a.salt r.range);
+      wide = subst (Wide a.size) (sym e) (wide-filled a.size a.size (minus (goal.at.peel-requires c).Start) (received (goal.at.peel-requires c).Start) r.wide);
+      small = subst (Small a.size (2 ^ 34)) (sym e)
           (small-difference (filter_rule a.size a.salt) (ids_of first_eight a.table.now) a.size (received (goal.at.peel-requires c).Start) r.wide r.counts
-          (omega (arith, ids-length first_eight a.table.now, table-count a.table.now r.table))),
-      trees-start 4096 8192 refl refl,
-    )
-
-pub shape_of-ids : goal.shape_of-ids
-shape_of-ids c = c.ids-2-1.given ∙ c.ids-1.given
-
-pub shape_of-hashes : goal.shape_of-hashes
-shape_of-hashes c = c.hashes-2-1.given ∙ c.hashes-1.given
-
-pub shape_of-counts : goal.shape_of-counts
-shape_of-counts c = c.counts-2-1.given ∙ c.counts-1.given
+          (omega (arith, ids-length first_eight a.table.now, table-count a.table.now r.table)));
+      ours_room = subst (λ l. a.size ≤ length l) (sym c.clear_list.ensures)
+          (omega (arith, listed-length a.size [] a.ours.now (omega arith) c.requires.ours-room, c.requires.ours-room));
+      theirs_room = subst (λ l. a.size ≤ length l) (sym c.clear_list-2.ensures)
+          (omega (arith, listed-length a.size [] a.theirs.now (omega arith) c.requires.theirs-room, c.requires.theirs-room));
+    }
 
 pub returns : goal.returns
 returns c = let a = c.args in
     let k = c.place_count-k in (
       peels_call a.size a.salt (place_count a.size) (minus (goal.at.returns c).Start) (received (goal.at.returns c).Start) c.requires.received.wide k.result k.ensures
-          c.subtract.ensures c.clear_list.ensures c.clear_list-2.ensures c.peel.ensures.0,
+          c.subtract.ensures c.clear_list.ensures c.clear_list-2.ensures c.peel.ensures.peels,
       looked_call a.size a.salt (place_count a.size) (minus (goal.at.returns c).Start) (received (goal.at.returns c).Start) c.requires.received.wide k.result k.ensures
-          c.subtract.ensures c.peel.ensures.2,
+          c.subtract.ensures c.peel.ensures.looked,
     )

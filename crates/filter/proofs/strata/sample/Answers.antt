@@ -15,6 +15,6 @@ returns-then-total-eq0 c = let zero : c.args.total ≡ 0 = omega arith in
 
 pub returns : goal.returns
 returns c = let some : 0 < c.args.total = omega arith in
-    ap Known (shl_exact 12 (c.args.i + 1) 64 c.requires.0 (omega (arith, c.requires.1)))
+    ap Known (shl_exact 12 (c.args.i + 1) 64 c.requires.few (omega (arith, c.requires.inside)))
     ∙ sampled_cases c.args.total c.args.i (λ (e : Estimate). Known (c.args.total * 2 ^ (c.args.i + 1)) ≡ e) (λ z. absurd (omega (arith, some, z)))
     (λ p. refl)
