@@ -27,7 +27,7 @@ use Rattle.bucket.specs.Columns.{Columns, view}
 use Rattle.bucket.specs.Lists.{elem, Distinct}
 use Rattle.bucket.specs.Places.{place_count}
 use Rattle.bucket.proofs.PlaceLaws.{place-count-some}
-use Rattle.filter.specs.declared.answers.Refusal.TheVariants.{None}
+use Rattle.std.specs.Prelude.{None}
 use Rattle.filter.specs.declared.answers.Verdict.{Verdict}
 use Rattle.filter.specs.declared.answers.Verdict.TheVariants.{Complete, Stuck, False}
 use Rattle.filter.specs.Lists.{minus}

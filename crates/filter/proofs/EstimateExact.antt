@@ -16,7 +16,7 @@ use mathlib.Core.List.{List}
 use Prim.Native.Nat.{ℕ, ◌^◌, ◌<◌}
 use lib.ListN.{length}
 use Rattle.bucket.specs.Columns.{Columns, view}
-use Rattle.filter.specs.declared.answers.Refusal.TheVariants.{None}
+use Rattle.std.specs.Prelude.{None}
 use Rattle.filter.specs.declared.answers.Verdict.TheVariants.{Complete}
 use Rattle.filter.specs.declared.answers.Estimate.TheVariants.{Known}
 use Rattle.filter.specs.Answers.{made_answer}

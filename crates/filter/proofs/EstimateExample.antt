@@ -22,7 +22,7 @@ use Rattle.bucket.specs.Lists.{elem, Distinct}
 use Rattle.bucket.specs.Places.{draw, candidates, firsts, places_by}
 use Rattle.bucket.specs.Salt.{rot, salted}
 use Rattle.filter.specs.declared.answers.Verdict.TheVariants.{Complete, Stuck}
-use Rattle.filter.specs.declared.answers.Refusal.TheVariants.{None}
+use Rattle.std.specs.Prelude.{None}
 use Rattle.filter.specs.declared.answers.Estimate.TheVariants.{Known, Unknown}
 use Rattle.filter.specs.Answers.{made_answer}
 use Rattle.filter.specs.Lists.{rising, distinct, select, minus}

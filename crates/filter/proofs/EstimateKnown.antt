@@ -20,11 +20,11 @@ use lib.ListN.{length}
 use Rattle.bucket.specs.Bucket.{Bucket, ◌⊕◌, ◌⊖◌, neg, 𝟎}
 use Rattle.bucket.specs.Columns.{Columns, view}
 use Rattle.bucket.proofs.BucketLaws.{⊕-comm, ⊕-idl, ⊕-invl, neg_then}
-use Rattle.filter.specs.declared.answers.Refusal.TheVariants.{None}
+use Rattle.std.specs.Prelude.{None}
 use Rattle.filter.specs.declared.answers.Estimate.{Estimate}
 use Rattle.filter.specs.declared.answers.Estimate.TheVariants.{Known, Unknown}
 use Rattle.filter.specs.declared.answers.EstimateAnswer.{EstimateAnswer}
-use Rattle.filter.specs.Answers.{refusal_number, made_answer}
+use Rattle.filter.specs.Answers.{number_of, made_answer}
 use Rattle.filter.specs.Peeling.{Outcome, is_complete}
 use Rattle.filter.specs.Calls.{filled}
 use Rattle.filter.specs.Estimator.{
@@ -53,7 +53,7 @@ estimate01 total (r ∷ rs) =
 -- refusal, estimate, columns
 unfoldable pub estimate_call01 : ℕ → Columns → Columns → ℕ × ℕ × Columns
 estimate_call01 salt a b =
-    let n = refusal_number (estimate_refusal a b) in
+    let n = number_of (estimate_refusal a b) in
     cond (eqb n 0)
     (0, estimate01 0 (readings salt 32 (less (view a) (view b))), filled 2528 (remaining salt 32 (less (view a) (view b))) a)
     (n, 0, a)
@@ -97,7 +97,7 @@ module _ (salt : ℕ) (a b : Columns) where
   granted e h = by (eqb number 0) refl
     where
       number : ℕ
-      number = refusal_number (estimate_refusal a b)
+      number = number_of (estimate_refusal a b)
 
       by : (t : Bool) → eqb number 0 ≡ t → estimate_refusal a b ≡ None
       by true t = number_zero (estimate_refusal a b) (eqb-true number 0 t)
@@ -142,7 +142,7 @@ module _ (salt : ℕ) (a b : Columns) where
   as_before = by (eqb number 0) refl
     where
       number : ℕ
-      number = refusal_number (estimate_refusal a b)
+      number = number_of (estimate_refusal a b)
 
       by : (t : Bool) → eqb number 0 ≡ t
           → ◌≡◌ {A = ℕ × ℕ × Columns}

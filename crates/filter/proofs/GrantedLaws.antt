@@ -8,39 +8,28 @@ use lib.Dec.{eqb, leb}
 use lib.ListN.{length, take, drop, replicate, length-reverse}
 use lib.Seq.{take_at}
 use borrow.Author.Tests.{eqb-true, leb-true}
+use Rattle.std.specs.Prelude.{Option, None, Some}
 use Rattle.bucket.specs.Columns.{Columns}
 use Rattle.bucket.specs.Lists.{over, pad}
 use Rattle.filter.specs.declared.answers.Refusal.{Refusal}
-use Rattle.filter.specs.declared.answers.Refusal.TheVariants.{
-  None,
-  Form,
-  Room,
-  Range,
-  Malformed,
-  OutOfTurn,
-  FalseReading,
-  Breach,
-  Checksum,
-  Swaps,
-  Limit,
-}
-use Rattle.filter.specs.Answers.{refusal_number, first_of}
+use Rattle.filter.specs.declared.answers.Refusal.TheVariants.{Form, Room, Range, Malformed, OutOfTurn, FalseReading, Breach, Checksum, Swaps, Limit}
+use Rattle.filter.specs.Answers.{refusal_number, number_of, first_of}
 use Rattle.filter.specs.Table.{ids_of, is_table}
 use Rattle.filter.specs.Calls.{in_range, are_counts, has_room, listed_into, read_refusal, unread, read_by, read_call}
 
--- only `None` has the number 0
-pub number_zero : (r : Refusal) → refusal_number r ≡ 0 → r ≡ None
+-- only no refusal has the number 0
+pub number_zero : (r : Option Refusal) → number_of r ≡ 0 → r ≡ None
 number_zero None e = refl
-number_zero Form e = cc
-number_zero Room e = cc
-number_zero Range e = cc
-number_zero Malformed e = cc
-number_zero OutOfTurn e = cc
-number_zero FalseReading e = cc
-number_zero Breach e = cc
-number_zero Checksum e = cc
-number_zero Swaps e = cc
-number_zero Limit e = cc
+number_zero (Some Form) e = cc
+number_zero (Some Room) e = cc
+number_zero (Some Range) e = cc
+number_zero (Some Malformed) e = cc
+number_zero (Some OutOfTurn) e = cc
+number_zero (Some FalseReading) e = cc
+number_zero (Some Breach) e = cc
+number_zero (Some Checksum) e = cc
+number_zero (Some Swaps) e = cc
+number_zero (Some Limit) e = cc
 
 tests_hold : (a b c : Bool) → first_of ((Form, a) ∷ (Range, b) ∷ (Room, c) ∷ []) ≡ None → (a ≡ true) × (b ≡ true) × (c ≡ true)
 tests_hold true true true e = (refl, refl, refl)
@@ -73,7 +62,7 @@ module _ (derive : ℕ → ℕ) (size salt : ℕ) (t : List ℕ) (c : Columns) (
   granted-read =
       ap (λ (n : ℕ). cond (eqb n 0)
       (read_by (ids_of derive t) size salt c o th)
-      (unread n c o th)) (ap refusal_number granted)
+      (unread n c o th)) (ap number_of granted)
 
 -- what is answered complete was granted
 pub complete-granted : (derive : ℕ → ℕ) (size salt : ℕ) (t : List ℕ) (c : Columns) (o th : List ℕ)
@@ -82,7 +71,7 @@ unfolding read_call
 complete-granted derive size salt t c o th e = go (eqb n 0) refl e
   where
     n : ℕ
-    n = refusal_number (read_refusal derive size salt t c o th)
+    n = number_of (read_refusal derive size salt t c o th)
 
     go : (b : Bool) → eqb n 0 ≡ b
         → (cond b (read_by (ids_of derive t) size salt c o th) (unread n c o th)).answer.complete ≡ 1

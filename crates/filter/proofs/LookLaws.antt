@@ -11,10 +11,10 @@ use lib.Dec.{eqb}
 use borrow.Author.Tests.{eqb-true, eqb-false}
 use Rattle.bucket.specs.Bucket.{Bucket}
 use Rattle.bucket.specs.Columns.{Columns}
-use Rattle.filter.specs.declared.answers.Refusal.TheVariants.{None}
+use Rattle.std.specs.Prelude.{None}
 use Rattle.filter.specs.declared.answers.Verdict.{Verdict}
 use Rattle.filter.specs.declared.answers.Verdict.TheVariants.{Complete, Stuck, False}
-use Rattle.filter.specs.Answers.{refusal_number}
+use Rattle.filter.specs.Answers.{number_of}
 use Rattle.filter.specs.Table.{ids_of}
 use Rattle.filter.specs.Filter.{Item, Rule, filter_rule}
 use Rattle.filter.specs.Peeling.{Next, nothing, again, take, remove, next, looking, looked}
@@ -58,7 +58,7 @@ module _ (derive : ℕ → ℕ) (size salt : ℕ) (t : List ℕ) (c : Columns) (
       go False = refl
 
   abbrev number : ℕ
-  number = refusal_number (read_refusal derive size salt t c o th)
+  number = number_of (read_refusal derive size salt t c o th)
 
   -- 0 where refusal 1, 3 or 2 leaves nothing read
   pub nothing_read : (read_refusal derive size salt t c o th ≡ None → ⊥) → answers_looked ≡ 0
@@ -74,7 +74,7 @@ module _ (derive : ℕ → ℕ) (size salt : ℕ) (t : List ℕ) (c : Columns) (
     where
       go : (b : Bool) → eqb number 0 ≡ b → (read_refusal derive size salt t c o th ≡ None) ⊎ (answers_looked ≡ 0)
       go true q = inl (number_zero (read_refusal derive size salt t c o th) (eqb-true number 0 q))
-      go false q = inr (nothing_read (λ g. eqb-false number 0 q (ap refusal_number g)))
+      go false q = inr (nothing_read (λ g. eqb-false number 0 q (ap number_of g)))
 
   -- "at most size × (size + 1)", whatever the input
   pub answers_most : answers_looked ≤ size * (size + 1)

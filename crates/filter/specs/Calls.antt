@@ -10,7 +10,7 @@
 --   clear_call ..           columns and lists made zero, as a false reading leaves them
 --
 -- Assumes nothing.
-use Rattle.std.specs.Prelude.{Bool, true, false, ◌&&◌, cond, List, [], ◌∷◌, reverse, ℕ, zero, suc, ◌^◌, eqb, ltb, leb, ℤ, pos, negsuc, length, take}
+use Rattle.std.specs.Prelude.{Bool, true, false, ◌&&◌, cond, Option, List, [], ◌∷◌, reverse, ℕ, zero, suc, ◌^◌, eqb, ltb, leb, ℤ, pos, negsuc, length, take}
 use Rattle.bucket.specs.Bucket.{Bucket, 𝟎}
 use Rattle.bucket.specs.Columns.{Columns, view, place}
 use Rattle.bucket.specs.Lists.{over, pad}
@@ -19,7 +19,7 @@ use Rattle.filter.specs.declared.answers.Refusal.TheVariants.{Form, Room, Range,
 use Rattle.filter.specs.declared.answers.ReadAnswer.{ReadAnswer}
 use Rattle.filter.specs.declared.answers.Verdict.{Verdict}
 use Rattle.filter.specs.declared.answers.Verdict.TheVariants.{Complete, Stuck, False}
-use Rattle.filter.specs.Answers.{refusal_number, first_of, answer}
+use Rattle.filter.specs.Answers.{refusal_number, number_of, first_of, answer}
 use Rattle.filter.specs.Table.{ids_of, is_table}
 use Rattle.filter.specs.Filter.{filter_rule, ours_of, theirs_of, filter_of, difference}
 use Rattle.filter.specs.Peeling.{Outcome, reading, looked, verdict}
@@ -49,7 +49,7 @@ unfoldable pub listed_into : ℕ → List ℕ → List ℕ → List ℕ
 listed_into n l o = over 0 (pad n l) o
 
 -- refusals 1 (table), 3, 2
-unfoldable pub build_refusal : (ℕ → ℕ) → ℕ → ℕ → List ℕ → Columns → Refusal
+unfoldable pub build_refusal : (ℕ → ℕ) → ℕ → ℕ → List ℕ → Columns → Option Refusal
 build_refusal derive size salt t c =
     first_of ((Form, is_table derive t) ∷ (Range, in_range size salt) ∷ (Room, has_room size c) ∷ [])
 
@@ -63,11 +63,11 @@ built n c = record { refusal = n; columns = c }
 -- "the filter made by the rules"; a refusal leaves everything unchanged
 unfoldable pub build_call : (ℕ → ℕ) → ℕ → ℕ → List ℕ → Columns → Build
 build_call derive size salt t c =
-    let n = refusal_number (build_refusal derive size salt t c) in
+    let n = number_of (build_refusal derive size salt t c) in
     built n (cond (eqb n 0) (filled size (filter_of (filter_rule size salt) (ids_of derive t)) c) c)
 
 -- refusals 1 (table, and a COUNT among the first size places), 3, 2
-unfoldable pub read_refusal : (ℕ → ℕ) → ℕ → ℕ → List ℕ → Columns → List ℕ → List ℕ → Refusal
+unfoldable pub read_refusal : (ℕ → ℕ) → ℕ → ℕ → List ℕ → Columns → List ℕ → List ℕ → Option Refusal
 read_refusal derive size salt t c o th =
     first_of (
     (Form, is_table derive t && are_counts size c.counts)
@@ -127,7 +127,7 @@ read_by ids size salt c o th =
 
 unfoldable pub read_call : (ℕ → ℕ) → ℕ → ℕ → List ℕ → Columns → List ℕ → List ℕ → Read
 read_call derive size salt t c o th =
-    let n = refusal_number (read_refusal derive size salt t c o th) in
+    let n = number_of (read_refusal derive size salt t c o th) in
     cond (eqb n 0) (read_by (ids_of derive t) size salt c o th) (unread n c o th)
 
 -- "columns and lists all zero", in the first size places; 2 where one is shorter

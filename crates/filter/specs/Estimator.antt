@@ -14,7 +14,7 @@
 --
 -- Stated over the salt, which is 0 in document 01; the stratum is then that of the ID itself (salted-none of proofs/StrataLaws).
 -- Assumes nothing.
-use Rattle.std.specs.Prelude.{true, ◌&&◌, cond, List, [], ◌∷◌, map, ℕ, zero, suc, ◌+◌, ◌*◌, ◌/◌, ◌%◌, ◌^◌, eqb, length}
+use Rattle.std.specs.Prelude.{true, ◌&&◌, cond, Option, List, [], ◌∷◌, map, ℕ, zero, suc, ◌+◌, ◌*◌, ◌/◌, ◌%◌, ◌^◌, eqb, length}
 use Rattle.bucket.specs.Bucket.{Bucket, ◌⊖◌, 𝟎}
 use Rattle.bucket.specs.Columns.{Columns, view}
 use Rattle.bucket.specs.Counts.{stratum_of}
@@ -28,7 +28,7 @@ use Rattle.filter.specs.declared.answers.Verdict.TheVariants.{Complete, Stuck, F
 use Rattle.filter.specs.declared.answers.Estimate.{Estimate}
 use Rattle.filter.specs.declared.answers.Estimate.TheVariants.{Known, Unknown}
 use Rattle.filter.specs.declared.answers.EstimateAnswer.{EstimateAnswer}
-use Rattle.filter.specs.Answers.{refusal_number, first_of, estimate, made_answer}
+use Rattle.filter.specs.Answers.{number_of, first_of, estimate, made_answer}
 use Rattle.filter.specs.Lists.{select}
 use Rattle.filter.specs.Table.{ids_of, is_table}
 use Rattle.filter.specs.Filter.{Rule, rule, filter_of}
@@ -100,16 +100,16 @@ remaining salt (suc n) f =
     cond (is_complete (strata_verdict (reading_at salt n f))) (remaining salt n (left_at salt n f)) (left_at salt n f)
 
 -- refusals 1 (table), 2
-unfoldable pub estimator_refusal : (ℕ → ℕ) → List ℕ → Columns → Refusal
+unfoldable pub estimator_refusal : (ℕ → ℕ) → List ℕ → Columns → Option Refusal
 estimator_refusal derive t c = first_of ((Form, is_table derive t) ∷ (Room, has_room 2528 c) ∷ [])
 
 unfoldable pub estimator_call : (ℕ → ℕ) → ℕ → List ℕ → Columns → Build
 estimator_call derive salt t c =
-    let n = refusal_number (estimator_refusal derive t c) in
+    let n = number_of (estimator_refusal derive t c) in
     built n (cond (eqb n 0) (filled 2528 (filter_of (estimator_rule salt) (ids_of derive t)) c) c)
 
 -- refusals 1 (a COUNT of either among the first 2,528 places), 2
-unfoldable pub estimate_refusal : Columns → Columns → Refusal
+unfoldable pub estimate_refusal : Columns → Columns → Option Refusal
 estimate_refusal a b =
     first_of (
     (Form, are_counts 2528 a.counts && are_counts 2528 b.counts)
@@ -126,7 +126,7 @@ estimated e c = record { answer = e; columns = c }
 -- "in the first's columns"; the second's are lent to be read alone
 unfoldable pub estimate_call : ℕ → Columns → Columns → Estimated
 estimate_call salt a b =
-    let n = refusal_number (estimate_refusal a b) in
+    let n = number_of (estimate_refusal a b) in
     cond (eqb n 0)
     (estimated (made_answer (estimate_of 0 (readings salt 32 (less (view a) (view b))))) (filled 2528 (remaining salt 32 (less (view a) (view b))) a))
     (estimated (estimate n 0 0) a)

@@ -5,7 +5,7 @@
 --   constants   the constants of this layer and of `bucket`, each under the words that fix it
 --
 -- Assumes nothing.
-use Rattle.std.specs.Prelude.{◌≡◌, refl, true, false, ◌&&◌, cond, List, [], ◌∷◌, ◌++◌, map, ℕ, ◌+◌, ◌*◌, ◌%◌, ◌^◌, eqb, ℤ, pos, negsuc, length, replicate}
+use Rattle.std.specs.Prelude.{◌≡◌, refl, Bool, true, false, ◌&&◌, cond, None, Some, Ok, Err, List, [], ◌∷◌, ◌++◌, map, ℕ, ◌+◌, ◌*◌, ◌%◌, ◌^◌, eqb, ℤ, pos, negsuc, length, replicate}
 use Rattle.std.specs.Int.Count.{count_trailing_zeros, count_leading_zeros}
 use Rattle.bucket.specs.Digits.{joined, groups, packed}
 use Rattle.bucket.specs.Salt.{rot, salted}
@@ -17,12 +17,13 @@ use Rattle.bucket.specs.Lists.{elem}
 use Rattle.bucket.specs.Packing.{is_width}
 use Rattle.bucket.specs.Places.{draw, crc_next, candidate, candidates, firsts, places_by, place_count}
 use Rattle.bucket.proofs.PlaceLaws.{place-count_37}
-use Rattle.filter.specs.declared.answers.Refusal.TheVariants.{None, Form, Room, Range, Malformed, OutOfTurn, FalseReading, Breach, Checksum, Swaps, Limit}
-use Rattle.filter.specs.declared.answers.Reading.TheVariants.{Complete, Stuck, BadForm, BadRange, NoRoom, Untrue}
+use Rattle.filter.specs.declared.answers.Refusal.TheVariants.{Form, Room, Range, Malformed, OutOfTurn, FalseReading, Breach, Checksum, Swaps, Limit}
+use Rattle.filter.specs.declared.answers.Reading.{Reading}
+use Rattle.filter.specs.declared.answers.Unread.{Unread}
+use Rattle.filter.specs.declared.answers.Unread.TheVariants.{Untrue}
 use Rattle.filter.specs.declared.answers.Estimate.TheVariants.{Known, Unknown}
-use Rattle.filter.specs.declared.answers.Estimation.TheVariants.{Made, NotCounts, TooShort}
 use Rattle.filter.specs.declared.answers.Verdict.TheVariants as verdicts
-use Rattle.filter.specs.Answers.{refusal_number, answer, answer_of, estimate, made_answer, estimate_answer}
+use Rattle.filter.specs.Answers.{refusal_number, number_of, answer, answer_of, estimate, made_answer, estimate_answer}
 use Rattle.filter.specs.Lists.{ascending, distinct}
 use Rattle.filter.specs.Table.{hashes_of, first_eight, ids_of, is_table}
 use Rattle.filter.specs.Filter.{Item, ours, theirs, Rule, touches, cell, put, sum_at, filter_of, difference}
@@ -147,9 +148,13 @@ numbers = (
 abbrev pub empty_and : ℕ → ℤ → Columns
 empty_and n c = columns (replicate (n + 1) 0) (replicate (n + 1) 0) (replicate n (pos 0) ++ c ∷ [])
 
+-- what a reading found
+abbrev pub found : Bool → ℕ → ℕ → ℕ → Reading
+found whole a b l = record { complete = whole; ours = a; theirs = b; looked = l }
+
 pub constants :
     -- "Refusal numbers", in the table's words
-    (refusal_number None ≡ 0)
+    (number_of None ≡ 0)
     -- "table, column, state or ledger breaks its form"
     × (refusal_number Form ≡ 1)
     -- "a lent buffer is shorter than stated here"
@@ -172,11 +177,11 @@ pub constants :
     × (refusal_number Limit ≡ 10)
     -- a reading's answer: complete is 1 and stuck 0, both with their lists' lengths and no refusal; what is refused has neither, and of them 6
     -- alone has the number of buckets looked at
-    × (map answer_of (Complete 5 7 9 ∷ Stuck 5 7 9 ∷ Untrue 9 ∷ []) ≡ answer 0 1 5 7 9 ∷ answer 0 0 5 7 9 ∷ answer 6 0 0 0 9 ∷ [])
-    × (map answer_of (BadForm ∷ BadRange ∷ NoRoom ∷ []) ≡ answer 1 0 0 0 0 ∷ answer 3 0 0 0 0 ∷ answer 2 0 0 0 0 ∷ [])
+    × (map answer_of (Ok (found true 5 7 9) ∷ Ok (found false 5 7 9) ∷ Err (Untrue 9) ∷ []) ≡ answer 0 1 5 7 9 ∷ answer 0 0 5 7 9 ∷ answer 6 0 0 0 9 ∷ [])
+    × (map answer_of (Err Unread.Form ∷ Err Unread.Range ∷ Err Unread.Room ∷ []) ≡ answer 1 0 0 0 0 ∷ answer 3 0 0 0 0 ∷ answer 2 0 0 0 0 ∷ [])
     -- an estimate's: known is 1 and unknown 0; what is unknown or refused has no number
-    × (map estimate_answer (Made (Known 48) ∷ Made (Known 0) ∷ Made Unknown ∷ []) ≡ estimate 0 1 48 ∷ estimate 0 1 0 ∷ estimate 0 0 0 ∷ [])
-    × (map estimate_answer (NotCounts ∷ TooShort ∷ []) ≡ estimate 1 0 0 ∷ estimate 2 0 0 ∷ [])
+    × (map estimate_answer (Ok (Known 48) ∷ Ok (Known 0) ∷ Ok Unknown ∷ []) ≡ estimate 0 1 48 ∷ estimate 0 1 0 ∷ estimate 0 0 0 ∷ [])
+    × (map estimate_answer (Err Form ∷ Err Room ∷ []) ≡ estimate 1 0 0 ∷ estimate 2 0 0 ∷ [])
     -- "A filter has 37 to 4,096 buckets", "Salt is 0 to 63"
     × (map (λ size. in_range size 0) (36 ∷ 37 ∷ 4096 ∷ 4097 ∷ []) ≡ false ∷ true ∷ true ∷ false ∷ [])
     × (map (in_range 37) (63 ∷ 64 ∷ []) ≡ true ∷ false ∷ [])
@@ -204,9 +209,9 @@ pub constants :
     × ((stratum_rule 0).size ≡ 79)
     × (length ((estimator_rule 0).places 8) ≡ 3)
     × ((f : ℕ → Bucket) → stratum 31 f 78 ≡ f 2527)
-    × ((derive : ℕ → ℕ) → map (λ n. estimator_refusal derive [] (empty_and n (pos 0))) (2526 ∷ 2527 ∷ []) ≡ Room ∷ None ∷ [])
-    × (map (λ n. estimate_refusal (empty_and n (pos 0)) (empty_and 2527 (pos 0))) (2526 ∷ 2527 ∷ []) ≡ Room ∷ None ∷ [])
-    × (map (λ n. estimate_refusal (empty_and 2527 (pos 0)) (empty_and n (negsuc 0))) (2527 ∷ 2528 ∷ []) ≡ Form ∷ None ∷ [])
+    × ((derive : ℕ → ℕ) → map (λ n. estimator_refusal derive [] (empty_and n (pos 0))) (2526 ∷ 2527 ∷ []) ≡ Some Room ∷ None ∷ [])
+    × (map (λ n. estimate_refusal (empty_and n (pos 0)) (empty_and 2527 (pos 0))) (2526 ∷ 2527 ∷ []) ≡ Some Room ∷ None ∷ [])
+    × (map (λ n. estimate_refusal (empty_and 2527 (pos 0)) (empty_and n (negsuc 0))) (2527 ∷ 2528 ∷ []) ≡ Some Form ∷ None ∷ [])
     -- "all strata, in the first's columns, and read from stratum 31 downwards"
     × ((a b : Columns) → estimate_refusal a b ≡ None
     → let d = less (view a) (view b) in

@@ -1,7 +1,8 @@
 // Building: the filter of a table, in three lent columns.
 ghost use Rattle.std.specs.Prelude.{◌≡◌, true};
+ghost use Rattle.std.specs.Result.{result_err};
 ghost use Rattle.bucket.specs.Columns.{columns};
-ghost use Rattle.filter.specs.Answers.{refusal_number};
+ghost use Rattle.filter.specs.Answers.{number_of};
 ghost use Rattle.filter.specs.Table.{first_eight, ids_of, is_table};
 ghost use Rattle.filter.specs.Filter.{filter_rule, filter_of};
 ghost use Rattle.filter.specs.Calls.{in_range, has_room, filled, built, build_call};
@@ -10,6 +11,7 @@ use crate::answers::Refusal;
 
 // The filter made by the rules from a table, at a size and a salt, in the first size places of the columns.
 // Refused: a bad table, then a size or salt out of range, then a column shorter than size; then nothing is changed.
+#[tactic(auto, unfolding(crate::specs::Calls::build_call, crate::specs::Calls::build_refusal))]
 pub fn build(
     table: &[u8],
     ids: &mut [u64],
@@ -17,24 +19,21 @@ pub fn build(
     counts: &mut [i64],
     size: u32,
     salt: u32,
-) -> Refusal
-    ensures { built (refusal_number result) (columns ids.new hashes.new counts.new)
+) -> Result<(), Refusal>
+    ensures { built (number_of (result_err result)) (columns ids.new hashes.new counts.new)
         ≡ build_call first_eight size salt table.now (columns ids.old hashes.old counts.old) }
 {
-    let formed = crate::table::is_table(table);
-    let ranged = crate::forms::in_range(size, salt);
-    let roomy = crate::forms::has_room(ids, hashes, counts, size);
-    if !formed {
-        return Refusal::Form;
+    if !crate::table::is_table(table) {
+        return Err(Refusal::Form);
     }
-    if !ranged {
-        return Refusal::Range;
+    if !crate::forms::in_range(size, salt) {
+        return Err(Refusal::Range);
     }
-    if !roomy {
-        return Refusal::Room;
+    if !crate::forms::has_room(ids, hashes, counts, size) {
+        return Err(Refusal::Room);
     }
     fill(table, ids, hashes, counts, size, salt);
-    Refusal::None
+    Ok(())
 }
 
 fn fill(table: &[u8], ids: &mut [u64], hashes: &mut [u32], counts: &mut [i64], size: u32, salt: u32)

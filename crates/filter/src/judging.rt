@@ -8,7 +8,7 @@ ghost use Rattle.filter.specs.Steps.{Wide, every};
 use crate::answers::Verdict;
 use crate::finding::{Hints, is_held};
 
-// The verdict on a peeling that was in order or not and listed these IDs. The table is asked only once the columns are zero.
+// The verdict on a peeling that was in order and listed these IDs. The table is asked only once the columns are zero.
 pub(crate) fn judge(
     table: &[u8],
     ids: &[u64],
@@ -16,16 +16,12 @@ pub(crate) fn judge(
     counts: &[i64],
     ours: &[u64],
     theirs: &[u64],
-    fine: bool,
     size: u32,
 ) -> Verdict
     requires { (is_table first_eight table.now ≡ true) × Wide size (columns ids.now hashes.now counts.now) }
-    ensures { result ≡ verdict_by fine (all_zero (view (columns ids.now hashes.now counts.now)) size)
+    ensures { result ≡ verdict_by true (all_zero (view (columns ids.now hashes.now counts.now)) size)
         (every true (ids_of first_eight table.now) ours.now && every false (ids_of first_eight table.now) theirs.now) }
 {
-    if !fine {
-        return Verdict::False;
-    }
     if !all_zero(ids, hashes, counts, size as usize) {
         return Verdict::Stuck;
     }

@@ -1,20 +1,22 @@
 // Reading: the received columns become ours minus received, and the difference is peeled.
 ghost use Rattle.std.specs.Prelude.{◌≡◌, ◌&&◌, [], ◌≤◌, leb, length};
+ghost use Rattle.std.specs.Result.{result_err};
 ghost use Rattle.bucket.specs.Bucket.{𝟎};
 ghost use Rattle.bucket.specs.Columns.{columns};
 ghost use Rattle.bucket.specs.Crc.{crc_tables};
-ghost use Rattle.filter.specs.Answers.{refusal_number, answer_of};
+ghost use Rattle.filter.specs.Answers.{number_of, answer_of};
 ghost use Rattle.filter.specs.Table.{first_eight, ids_of, is_table};
 ghost use Rattle.filter.specs.Calls.{are_counts, has_room, filled, listed_into, answered, unread, subtracted, outcome_of, looked_of, read_by, read_call, clear_call};
 ghost use Rattle.filter.specs.Steps.{Ready, Received, Wide, Peels};
 
-use crate::answers::{Reading, Refusal, Verdict};
+use crate::answers::{Reading, Refusal, Unread, Verdict};
 use crate::peeling::Peeled;
 use crate::repeats::Trees;
 
 // Reads the difference of our table and a received filter, at a size and a salt, into two lists: IDs that are only ours, and only theirs.
 // Refused: a bad table or a COUNT outside 0 to 2^32 − 1, then a size or salt out of range, then a column or list shorter than size; then
 // nothing is changed. A false reading is refused too, and leaves zeros. Only the first size places of each slice are judged and written.
+#[tactic(auto, unfolding(crate::specs::Calls::read_call, crate::specs::Calls::read_refusal))]
 pub fn read(
     table: &[u8],
     ids: &mut [u64],
@@ -24,27 +26,25 @@ pub fn read(
     theirs: &mut [u64],
     size: u32,
     salt: u32,
-) -> Reading
+) -> Result<Reading, Unread>
     ensures { answered (answer_of result) (columns ids.new hashes.new counts.new) ours.new theirs.new
         ≡ read_call first_eight size salt table.now (columns ids.old hashes.old counts.old) ours.old theirs.old }
 {
-    let formed = is_well_formed(table, counts, size);
-    let ranged = crate::forms::in_range(size, salt);
-    let roomy = has_all_room(ids, hashes, counts, ours, theirs, size);
-    if !formed {
-        return Reading::BadForm;
+    if !is_well_formed(table, counts, size) {
+        return Err(Unread::Form);
     }
-    if !ranged {
-        return Reading::BadRange;
+    if !crate::forms::in_range(size, salt) {
+        return Err(Unread::Range);
     }
-    if !roomy {
-        return Reading::NoRoom;
+    if !has_all_room(ids, hashes, counts, ours, theirs, size) {
+        return Err(Unread::Room);
     }
     read_difference(table, ids, hashes, counts, ours, theirs, size, salt)
 }
 
 // Makes columns and lists zero in the first size places, as a false reading leaves them. Refused: a column or list shorter than size; then nothing
 // is changed.
+#[tactic(auto, using(crate::proofs::CallLaws::clear_ready), unfolding(crate::specs::Calls::clear_call))]
 pub fn clear(
     ids: &mut [u64],
     hashes: &mut [u32],
@@ -52,15 +52,15 @@ pub fn clear(
     ours: &mut [u64],
     theirs: &mut [u64],
     size: u32,
-) -> Refusal
-    ensures { unread (refusal_number result) (columns ids.new hashes.new counts.new) ours.new theirs.new
+) -> Result<(), Refusal>
+    ensures { unread (number_of (result_err result)) (columns ids.new hashes.new counts.new) ours.new theirs.new
         ≡ clear_call size (columns ids.old hashes.old counts.old) ours.old theirs.old }
 {
     if !has_all_room(ids, hashes, counts, ours, theirs, size) {
-        return Refusal::Room;
+        return Err(Refusal::Room);
     }
     clear_all(ids, hashes, counts, ours, theirs, size as usize);
-    Refusal::None
+    Ok(())
 }
 
 // Reads what no test refuses.
@@ -73,36 +73,39 @@ fn read_difference(
     theirs: &mut [u64],
     size: u32,
     salt: u32,
-) -> Reading
+) -> Result<Reading, Unread>
     requires { Ready size salt table.now (columns ids.old hashes.old counts.old) ours.old theirs.old }
     ensures { answered (answer_of result) (columns ids.new hashes.new counts.new) ours.new theirs.new
         ≡ read_by (ids_of first_eight table.now) size salt (columns ids.old hashes.old counts.old) ours.old theirs.old }
 {
     let p = peel_difference(table, ids, hashes, counts, ours, theirs, size, salt);
-    let l = p.looked;
-    let Some(n) = p.listed else {
-        clear_all(ids, hashes, counts, ours, theirs, size as usize);
-        return Reading::Untrue { looked: p.looked };
-    };
-    let a = n.ours;
-    let b = n.theirs;
-    let v = crate::judging::judge(table, ids, hashes, counts, ours, theirs, true, a, b, size);
-    match v {
-        Verdict::Complete => Reading::Complete {
-            ours: a,
-            theirs: b,
-            looked: l,
-        },
-        Verdict::Stuck => Reading::Stuck {
-            ours: a,
-            theirs: b,
-            looked: l,
-        },
-        Verdict::False => {
-            clear_all(ids, hashes, counts, ours, theirs, size as usize);
-            Reading::Untrue { looked: l }
+    let looked = p.looked;
+    if let Some(n) = p.listed {
+        let a = n.ours;
+        let b = n.theirs;
+        let v = crate::judging::judge(table, ids, hashes, counts, &ours[..a], &theirs[..b], size);
+        match v {
+            Verdict::Complete => {
+                return Ok(Reading {
+                    complete: true,
+                    ours: a,
+                    theirs: b,
+                    looked,
+                });
+            }
+            Verdict::Stuck => {
+                return Ok(Reading {
+                    complete: false,
+                    ours: a,
+                    theirs: b,
+                    looked,
+                });
+            }
+            Verdict::False => {}
         }
     }
+    clear_all(ids, hashes, counts, ours, theirs, size as usize);
+    Err(Unread::Untrue { looked })
 }
 
 fn is_well_formed(table: &[u8], counts: &[i64], size: u32) -> bool

@@ -1,26 +1,20 @@
 -- `judging::judge` meets its contract: each early answer is the definition's at the test that failed. Assumes nothing.
 use Rattle.bucket.proofs.TestLaws.{test_refused, test_granted}
-use Rattle.filter.proofs.JudgeLaws.{not_fine, is_fine_lem}
 use Rattle.std.proofs.Common.{ap}
 use mathlib.Core.Bool.{not}
 use Rattle.filter.proofs.judging.judge.Goals as goal
 
-pub returns-then-not-fine : goal.returns-then-not-fine
-returns-then-not-fine c = rw (not_fine c.args.fine (ap not c.if-not-fine.true))
-
 pub returns-then-not-all_zero : goal.returns-then-not-all_zero
-returns-then-not-all_zero c = rw (is_fine_lem c.args.fine (ap not c.if-not-fine.false), test_refused c.all_zero.ensures (ap not c.if-not-all_zero.true))
+returns-then-not-all_zero c = rw (test_refused c.all_zero.ensures (ap not c.if-not-all_zero.true))
 
 pub returns-then-not-lists_agree : goal.returns-then-not-lists_agree
 returns-then-not-lists_agree c = rw (
-  is_fine_lem c.args.fine (ap not c.if-not-fine.false),
   test_granted c.all_zero.ensures (ap not c.if-not-all_zero.false),
   test_refused c.lists_agree.ensures (ap not c.if-not-lists_agree.true),
 )
 
 pub returns : goal.returns
 returns c = rw (
-  is_fine_lem c.args.fine (ap not c.if-not-fine.false),
   test_granted c.all_zero.ensures (ap not c.if-not-all_zero.false),
   test_granted c.lists_agree.ensures (ap not c.if-not-lists_agree.false),
 )

