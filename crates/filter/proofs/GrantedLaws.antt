@@ -13,7 +13,7 @@ use Rattle.bucket.specs.Columns.{Columns}
 use Rattle.bucket.specs.Lists.{over, pad}
 use Rattle.filter.specs.declared.answers.Refusal.{Refusal}
 use Rattle.filter.specs.declared.answers.Refusal.TheVariants.{Form, Room, Range, Malformed, OutOfTurn, FalseReading, Breach, Checksum, Swaps, Limit}
-use Rattle.filter.specs.Answers.{refusal_number, number_of, first_of}
+use Rattle.filter.specs.Answers.{number_of, first_of}
 use Rattle.filter.specs.Table.{ids_of, is_table}
 use Rattle.filter.specs.Calls.{in_range, are_counts, has_room, listed_into, read_refusal, unread, read_by, read_call}
 
