@@ -1,12 +1,10 @@
 -- `bucket::packing::spare_is_zero` meets its contract: each of the bits behind the counters is looked at. Assumes nothing.
-use Rattle.std.proofs.Common.{arith, refl, rules, length, ◌≡◌, ◌*◌, ◌∙◌}
+use Rattle.std.proofs.Common.{refl, rules, length, ◌≡◌, ◌*◌, ◌∙◌}
 use lib.Dec.{eqb}
 use borrow.Author.Tests.{tests}
-use Rattle.std.proofs.lemmas.Bool.Decides.{nat_tests}
 use Rattle.std.proofs.lemmas.Iterator.{YieldsList-from_range}
 use Rattle.std.proofs.lemmas.Iterator.Search.{all_from_yields_List}
 use Rattle.bucket.specs.Digits.{bytes_for, bit_at}
-use Rattle.bucket.specs.Packing.{is_bare}
 use Rattle.bucket.proofs.OverLaws.{part_length}
 use Rattle.bucket.proofs.ReadLaws.{spare-tested, bare-here}
 use Rattle.bucket.proofs.RoomLaws.{takes-room}
