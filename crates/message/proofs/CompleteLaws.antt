@@ -9,6 +9,7 @@ use borrow.Author.Tests.{ltb-true, leb-true, eq-eqb, le-leb}
 use lib.Dec.{eqb, ltb}
 use lib.ListN.{length, take, drop, length-append}
 use lib.Seq.{take_all, take_at, drop_at, drop-drop}
+use Rattle.std.proofs.Common.{Some, None}
 use Rattle.bucket.specs.Digits.{bytes_for, joined, groups, packed, unpacked, spare_bits}
 use Rattle.bucket.specs.Lists.{part}
 use Rattle.bucket.specs.Packing.{is_bare}
@@ -17,15 +18,16 @@ use Rattle.bucket.proofs.PackedLaws.{packed-length, unpacked-packed, packed-spar
 use Rattle.bucket.proofs.RoomLaws.{takes-rest}
 use Rattle.bucket.proofs.TestLaws.{and_holds}
 use Rattle.bucket.proofs.ReadLaws.{bare-here}
-use Rattle.message.specs.declared.kinds.Message.TheVariants.{Ibf, IbfLast, Malformed}
-use Rattle.message.specs.Layout.{DEMAND, INQUIRY, OFFER, IBF, ELEMENT, IBF_LAST, DONE, Content, slice, inquiry, offer, demand, element, done, Good, Many, Slice, layout, framed, in_slice, slice_type, slice_bytes}
-use Rattle.message.specs.Reading.{field, content, head, slice_in, slice_fits, parse, parse_body, parse_slice, parse_inquiry, hashes_fit}
+use Rattle.message.specs.declared.kinds.Message.TheVariants.{Ibf, IbfLast}
+use Rattle.message.specs.declared.kinds.Slice.{Slice}
+use Rattle.message.specs.Layout.{DEMAND, INQUIRY, OFFER, IBF, ELEMENT, IBF_LAST, DONE, Content, slice, inquiry, offer, demand, element, done, Good, Many, GoodSlice, layout, framed, in_slice, slice_type, slice_bytes}
+use Rattle.message.specs.Reading.{field, content, head, slice_in, slice_with, slice_fits, parse, parse_body, parse_slice, parse_inquiry, hashes_fit}
 use Rattle.message.proofs.FrameLaws.{framed-length, framed-size, framed_type, framed-drop, framed-field}
 use Rattle.message.proofs.ReadLaws.{both, typed, Ranges, slice-ranges, slice_fields}
 use Rattle.message.proofs.WholeLaws.{packed-one, packed_two, packed-cons, packed-nil, field-here, field-there, drop-field, whole}
 
 pub record Kept (m : Content) : Type 0 where
-  pub read : parse (layout m) ≡ head m
+  pub read : parse (layout m) ≡ Some (head m)
   pub said : content (head m) (layout m) ≡ m
 
 -- a frame of type t around a body of a good length
@@ -144,14 +146,12 @@ type_slice : (b : Bool) → (eqb (cond b IBF_LAST IBF) IBF || eqb (cond b IBF_LA
 type_slice true = refl
 type_slice false = refl
 
-slice-said : (b : Bool) (size offset salt width n : ℕ) (bs : List ℕ)
-    → content (cond b (IbfLast size offset salt width n) (Ibf size offset salt width n)) bs
-    ≡ slice_in size offset salt width n bs
+slice-said : (b : Bool) (s : Slice) (bs : List ℕ) → content (cond b (IbfLast s) (Ibf s)) bs ≡ slice_in s bs
 unfolding content
-slice-said true size offset salt width n bs = refl
-slice-said false size offset salt width n bs = refl
+slice-said true s bs = refl
+slice-said false s bs = refl
 
-slices : (size offset salt width : ℕ) (ids hashes counts : List ℕ) → Slice size offset salt width ids hashes counts → Kept (slice size offset salt width ids hashes counts)
+slices : (size offset salt width : ℕ) (ids hashes counts : List ℕ) → GoodSlice size offset salt width ids hashes counts → Kept (slice size offset salt width ids hashes counts)
 unfolding layout head content parse_slice
 slices size offset salt width ids hashes counts good =
     record {
@@ -161,7 +161,7 @@ slices size offset salt width ids hashes counts good =
           (sym (slice_fields t bs (omega (arith, all)) (sym size') (sym offset') (sym salt') (sym width'))
           ∙ rw (fitting, bare));
       said =
-          slice-said (eqb t IBF_LAST) size offset salt width n bs
+          slice-said (eqb t IBF_LAST) (slice_with size offset salt width) bs
           ∙ ap₃ (slice size offset salt width)
           (ap₂ (unpacked 64) (sym good.n-ids) ids' ∙ unpacked-packed 64 ids good.ids-fit)
           (ap₂ (unpacked 32) (sym good.n-hashes) hashes' ∙ unpacked-packed 32 hashes good.hashes-fit)
@@ -267,19 +267,9 @@ complete (demand hs) good = demands hs good
 complete (element bs) good = elements bs good
 complete (done x) good = dones x good
 
-pub head_never : (m : Content) → head m ≡ Malformed → ⊥
-unfolding head
-head_never (slice size offset salt width ids hashes counts) e = slice_never (eqb (slice_type size offset) IBF_LAST) e
-  where
-    slice_never : (b : Bool) → cond b (IbfLast size offset salt width (in_slice size offset)) (Ibf size offset salt width (in_slice size offset)) ≡ Malformed → ⊥
-    slice_never true q = let z : ◌≡◌ {A = ℕ} 0 1 = cc in omega arith
-    slice_never false q = let z : ◌≡◌ {A = ℕ} 0 1 = cc in omega arith
-head_never (inquiry salt ids) e = let z : ◌≡◌ {A = ℕ} 0 1 = cc in omega arith
-head_never (offer hs) e = let z : ◌≡◌ {A = ℕ} 0 1 = cc in omega arith
-head_never (demand hs) e = let z : ◌≡◌ {A = ℕ} 0 1 = cc in omega arith
-head_never (element bs) e = let z : ◌≡◌ {A = ℕ} 0 1 = cc in omega arith
-head_never (done x) e = let z : ◌≡◌ {A = ℕ} 0 1 = cc in omega arith
+pub head_never : (m : Content) → Some (head m) ≡ None → ⊥
+head_never m e = cc
 
--- the bytes of anything in range are not malformed; with `sound`, malformed is exactly everything else
-pub not_malformed : (m : Content) (bs : List ℕ) → Good m → layout m ≡ bs → parse bs ≡ Malformed → ⊥
+-- the bytes of anything in range are a message; with `sound`, no message is exactly everything else
+pub not_malformed : (m : Content) (bs : List ℕ) → Good m → layout m ≡ bs → parse bs ≡ None → ⊥
 not_malformed m bs good e z = head_never m (sym (complete m good).read ∙ ap parse e ∙ z)

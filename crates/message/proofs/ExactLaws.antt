@@ -2,25 +2,24 @@
 -- are malformed exactly when they are the layout of nothing in range.
 --
 --   LayoutOf bs m      bs is the layout of something in range, `said`, whose kind and numbers are m
---   read_exactly        both ways, for every m but Malformed
+--   read_exactly        both ways, for every m
 --   said_exactly        and `content m bs` is what was said
---   malformed_exactly   both ways, for Malformed
+--   malformed_exactly   both ways, for no message
 --   layout-bytes        a layout is bytes
 --   content_unique      different contents have different layouts
 --
 -- Assumes nothing.
-use mathlib.Core.Path.{◌≡◌, sym, ap, ap₂, ◌∙◌}
+use mathlib.Core.Path.{◌≡◌, refl, sym, ap, ap₂, ◌∙◌, subst}
 use mathlib.Core.List.{List, [], ◌∷◌, ◌++◌}
-use mathlib.Core.Logic.{◌⊎◌, inl, inr}
 use Prim.Native.Nat.{ℕ, zero, suc}
+use Rattle.std.proofs.Common.{Option, Some, None}
 use Rattle.bucket.specs.Digits.{packed, Below}
 use Rattle.bucket.proofs.PackedLaws.{packed-below}
 use Rattle.message.specs.declared.kinds.Message.{Message}
-use Rattle.message.specs.declared.kinds.Message.TheVariants.{Malformed}
 use Rattle.message.specs.Layout.{Content, slice, inquiry, offer, demand, element, done, Good, layout, framed}
 use Rattle.message.specs.Reading.{parse, content, head}
-use Rattle.message.proofs.SoundLaws.{Told, sound}
-use Rattle.message.proofs.CompleteLaws.{complete, not_malformed}
+use Rattle.message.proofs.SoundLaws.{Told, Sound, sound}
+use Rattle.message.proofs.CompleteLaws.{Kept, complete, not_malformed}
 
 pub record LayoutOf (bs : List ℕ) (m : Message) : Type 0 where
   pub said : Content
@@ -31,25 +30,24 @@ pub record LayoutOf (bs : List ℕ) (m : Message) : Type 0 where
 told-layout : (bs : List ℕ) (m : Message) → Told bs m → LayoutOf bs m
 told-layout bs m t = record { said = content m bs; good = t.good; same = t.same; bytes = t.bytes }
 
-pub read_exactly : (bs : List ℕ) → Below 8 bs → (m : Message) → (m ≡ Malformed → ⊥)
-    → (parse bs ≡ m → LayoutOf bs m) × (LayoutOf bs m → parse bs ≡ m)
-read_exactly bs below m real = (λ e. go e (sound bs below), λ l. sym (ap parse l.bytes) ∙ (complete l.said l.good).read ∙ l.same)
-  where
-    go : parse bs ≡ m → (parse bs ≡ Malformed) ⊎ Told bs (parse bs) → LayoutOf bs m
-    go e (inl z) = absurd (real (sym e ∙ z))
-    go e (inr t) = rw e at (told-layout bs (parse bs) t)
+pub read_exactly : (bs : List ℕ) → Below 8 bs → (m : Message)
+    → (parse bs ≡ Some m → LayoutOf bs m) × (LayoutOf bs m → parse bs ≡ Some m)
+read_exactly bs below m = (
+  λ e. told-layout bs m (subst (Sound bs) e (sound bs below)),
+  λ l. sym (ap parse l.bytes) ∙ (complete l.said l.good).read ∙ ap Some l.same,
+)
 
 pub said_exactly : (bs : List ℕ) (m : Message) (l : LayoutOf bs m) → content m bs ≡ l.said
 said_exactly bs m l = ap₂ content (sym l.same) (sym l.bytes) ∙ (complete l.said l.good).said
 
 pub malformed_exactly : (bs : List ℕ) → Below 8 bs
-    → (parse bs ≡ Malformed → (c : Content) → Good c → layout c ≡ bs → ⊥)
-    × (((c : Content) → Good c → layout c ≡ bs → ⊥) → parse bs ≡ Malformed)
-malformed_exactly bs below = (λ e c good q. not_malformed c bs good q e, λ none. go none (sound bs below))
+    → (parse bs ≡ None → (c : Content) → Good c → layout c ≡ bs → ⊥)
+    × (((c : Content) → Good c → layout c ≡ bs → ⊥) → parse bs ≡ None)
+malformed_exactly bs below = (λ e c good q. not_malformed c bs good q e, λ none. go none (parse bs) (sound bs below))
   where
-    go : ((c : Content) → Good c → layout c ≡ bs → ⊥) → (parse bs ≡ Malformed) ⊎ Told bs (parse bs) → parse bs ≡ Malformed
-    go none (inl z) = z
-    go none (inr t) = absurd (none (content (parse bs) bs) t.good t.bytes)
+    go : ((c : Content) → Good c → layout c ≡ bs → ⊥) → (x : Option Message) → Sound bs x → x ≡ None
+    go none None t = refl
+    go none (Some m) t = absurd (none (content m bs) t.good t.bytes)
 
 append-below : (w : ℕ) (xs ys : List ℕ) → Below w xs → Below w ys → Below w (xs ++ ys)
 append-below w [] ys f g i = g i
@@ -76,5 +74,8 @@ layout-bytes (done check) good = framed-below _ _ (packed-below 512 (check ∷ [
 pub content_unique : (c d : Content) → Good c → Good d → layout c ≡ layout d → c ≡ d
 content_unique c d good-c good-d e =
     sym (complete c good-c).said
-    ∙ ap₂ content (sym (complete c good-c).read ∙ ap parse e ∙ (complete d good-d).read) e
+    ∙ ap₂ content same e
     ∙ (complete d good-d).said
+  where
+    same : head c ≡ head d
+    same = let e' : Some (head c) ≡ Some (head d) = sym (complete c good-c).read ∙ ap parse e ∙ (complete d good-d).read in cc

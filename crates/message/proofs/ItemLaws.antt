@@ -16,6 +16,7 @@ use borrow.Author.Tests.{ltb-true, ltb-false, le-leb, lt-ltb, le-ltb}
 use lib.Dec.{ltb, leb}
 use lib.ListN.{length, drop, get_or, length-drop, get_or-eq_default}
 use lib.Seq.{take_all}
+use Rattle.std.proofs.Common.{Some}
 use Rattle.bucket.specs.Digits.{joined, unpacked}
 use Rattle.bucket.specs.Lists.{part}
 use Rattle.bucket.specs.Packing.{takes, counters_at, counter_at}
@@ -24,6 +25,7 @@ use Rattle.bucket.proofs.RoomLaws.{bits_ahead}
 use Rattle.bucket.proofs.TestLaws.{cond-kept, cond-made, and_fails, and_holds}
 use Rattle.bucket.proofs.ReadLaws.{counter_here}
 use Rattle.message.specs.declared.kinds.Message.TheVariants.{Ibf, IbfLast, Inquiry, Offer, Demand, Element, Done}
+use Rattle.message.specs.declared.kinds.Slice.{Slice}
 use Rattle.message.specs.Items.{number_at, id_at, idsum_at, hashsum_at, counter_of, hash_part, content_of}
 use Rattle.message.specs.Reading.{parse}
 use Rattle.message.proofs.ReachLaws.{number_past, number-within, hash-past, hash-within}
@@ -53,7 +55,7 @@ by_place {P} i n f g = go (ltb i n) refl
 rest_part : (from m : ℕ) (bs : List ℕ) → length bs ≡ from + m → drop from bs ≡ part from m bs
 rest_part from m bs e = sym (take_all m (drop from bs) (omega (arith, length-drop from bs)))
 
-pub ids_by_number : (bs : List ℕ) (salt n : ℕ) → parse bs ≡ Inquiry salt n → (i : ℕ) → get_or (unpacked 64 n (drop 8 bs)) i 0 ≡ id_at bs i
+pub ids_by_number : (bs : List ℕ) (salt n : ℕ) → parse bs ≡ Some (Inquiry salt n) → (i : ℕ) → get_or (unpacked 64 n (drop 8 bs)) i 0 ≡ id_at bs i
 unfolding id_at
 ids_by_number bs salt n e i =
     let l = shape bs e in
@@ -70,18 +72,18 @@ hash-there n bs l i =
     ∙ ap (joined 8) (hash-within bs i (within 64 n 4 bs (omega arith) i h)))
     (λ h. none-past 512 n (drop 4 bs) i h ∙ ap (joined 8) (hash-past bs i (omega arith)))
 
-pub offers_by_number : (bs : List ℕ) (n : ℕ) → parse bs ≡ Offer n → (i : ℕ) → get_or (unpacked 512 n (drop 4 bs)) i 0 ≡ joined 8 (hash_part bs i)
+pub offers_by_number : (bs : List ℕ) (n : ℕ) → parse bs ≡ Some (Offer n) → (i : ℕ) → get_or (unpacked 512 n (drop 4 bs)) i 0 ≡ joined 8 (hash_part bs i)
 offers_by_number bs n e = hash-there n bs (shape bs e)
 
-pub demands_by_number : (bs : List ℕ) (n : ℕ) → parse bs ≡ Demand n → (i : ℕ) → get_or (unpacked 512 n (drop 4 bs)) i 0 ≡ joined 8 (hash_part bs i)
+pub demands_by_number : (bs : List ℕ) (n : ℕ) → parse bs ≡ Some (Demand n) → (i : ℕ) → get_or (unpacked 512 n (drop 4 bs)) i 0 ≡ joined 8 (hash_part bs i)
 demands_by_number bs n e = hash-there n bs (shape bs e)
 
-pub check_by_number : (bs : List ℕ) → parse bs ≡ Done → joined 8 (drop 4 bs) ≡ joined 8 (hash_part bs 0)
+pub check_by_number : (bs : List ℕ) → parse bs ≡ Some Done → joined 8 (drop 4 bs) ≡ joined 8 (hash_part bs 0)
 check_by_number bs e =
     let l = shape bs e in
     ap (joined 8) (rest_part 4 64 bs l ∙ hash-within bs 0 (omega arith))
 
-pub element-length : (bs : List ℕ) (n : ℕ) → parse bs ≡ Element n → length (content_of bs) ≡ n
+pub element-length : (bs : List ℕ) (n : ℕ) → parse bs ≡ Some (Element n) → length (content_of bs) ≡ n
 element-length bs n e = let l = shape bs e in omega (arith, length-drop 4 bs)
 
 pub record SliceItems (width n : ℕ) (bs : List ℕ) : Type 0 where
@@ -89,9 +91,9 @@ pub record SliceItems (width n : ℕ) (bs : List ℕ) : Type 0 where
   pub hashsums : (i : ℕ) → get_or (unpacked 32 n (part (16 + 8 * n) (4 * n) bs)) i 0 ≡ hashsum_at n bs i
   pub counters : (i : ℕ) → get_or (counters_at width n (16 + 12 * n) bs) i 0 ≡ counter_of n width bs i
 
-slice-there : {type size offset salt : ℕ} (width n : ℕ) (bs : List ℕ) → Sliced bs type size offset salt width n → SliceItems width n bs
+slice-there : {type : ℕ} (s : Slice) (bs : List ℕ) → Sliced bs type s → SliceItems s.width s.count bs
 unfolding idsum_at hashsum_at counter_of
-slice-there width n bs s =
+slice-there s bs l =
     record {
       idsums = λ i. by_place i n
           (λ h. number-there 8 n 16 bs (omega arith) i h ∙ cond-made (number_at 8 16 bs i) 0 (lt-ltb i n h))
@@ -102,14 +104,20 @@ slice-there width n bs s =
       counters = λ i. counter_here bs (16 + 12 * n) n width i there ∙ cond-made (counter_at width n (16 + 12 * n) bs i) 0 few;
     }
   where
+    width : ℕ
+    width = s.width
+
+    n : ℕ
+    n = s.count
+
     few : leb n 2520 ≡ true
-    few = le-leb n 2520 s.few
+    few = le-leb n 2520 l.few
 
     there : takes width n (16 + 12 * n) (length bs) ≡ true
-    there = sliced-takes s
+    there = sliced-takes l
 
-pub ibf_by_number : (bs : List ℕ) (size offset salt width n : ℕ) → parse bs ≡ Ibf size offset salt width n → SliceItems width n bs
-ibf_by_number bs size offset salt width n e = slice-there width n bs (shape bs e)
+pub ibf_by_number : (bs : List ℕ) (s : Slice) → parse bs ≡ Some (Ibf s) → SliceItems s.width s.count bs
+ibf_by_number bs s e = slice-there s bs (shape bs e)
 
-pub ibf_last_by_number : (bs : List ℕ) (size offset salt width n : ℕ) → parse bs ≡ IbfLast size offset salt width n → SliceItems width n bs
-ibf_last_by_number bs size offset salt width n e = slice-there width n bs (shape bs e)
+pub ibf_last_by_number : (bs : List ℕ) (s : Slice) → parse bs ≡ Some (IbfLast s) → SliceItems s.width s.count bs
+ibf_last_by_number bs s e = slice-there s bs (shape bs e)

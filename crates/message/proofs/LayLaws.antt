@@ -1,5 +1,5 @@
 -- A slice laid into columns: its numbers one after another, the columns together, and the call for each kind of message. Assumes nothing.
-use mathlib.Core.Path.{◌≡◌, refl, sym, ap, ap₂, ◌∙◌}
+use mathlib.Core.Path.{◌≡◌, refl, sym, ap, ap₂, ◌∙◌, subst}
 use mathlib.Core.Bool.{Bool, true, false, ◌&&◌, cond}
 use mathlib.Core.List.{List, [], ◌∷◌, ◌++◌, map}
 use Prim.Native.Nat.{ℕ, ◌+◌, ◌-◌, ◌*◌, ◌≤◌, ◌<◌}
@@ -13,6 +13,8 @@ use lib.ListN.{length, take, get_or, set}
 use lib.Seq.{take_all, take-suc, take-suc-set}
 use borrow.Rule.Slice.PartMut.{put_mid}
 use Rattle.std.proofs.lemmas.List.{map-id}
+use Rattle.std.specs.Prelude.{MatchOption}
+use Rattle.std.proofs.Common.{Option, Some, None as Nothing}
 use Rattle.bucket.specs.Columns.{Columns, columns}
 use Rattle.bucket.specs.Digits.{unpacked}
 use Rattle.bucket.specs.Lists.{over, part}
@@ -26,11 +28,13 @@ use Rattle.filter.specs.Answers.{refusal_number, first_of}
 use Rattle.filter.specs.Calls.{has_room}
 use Rattle.filter.proofs.FilledLaws.{wide_of}
 use Rattle.message.specs.declared.kinds.Message.{Message}
-use Rattle.message.specs.declared.kinds.Message.TheVariants.{Ibf, IbfLast}
-use Rattle.message.specs.Laying.{laid, is_slice, slice_end, lay_refusal, lay, lay_as, lay_call}
+use Rattle.message.specs.declared.kinds.Message.TheVariants.{Ibf, IbfLast, Inquiry, Offer, Demand, Element, Done}
+use Rattle.message.specs.declared.kinds.Slice.{Slice}
+use Rattle.message.specs.Kinds.{slice_as}
+use Rattle.message.specs.Laying.{laid, is_slice, slice_end, lay_refusal, lay, lay_as, lay_read, lay_call}
 use Rattle.message.specs.Putting.{buckets_laid, lay_buckets}
 use Rattle.message.specs.Reading.{field, parse, content}
-use Rattle.message.proofs.ShapeLaws.{Sliced, sliced-takes}
+use Rattle.message.proofs.ShapeLaws.{Sliced, shape, sliced-takes}
 use Rattle.message.proofs.WholeLaws.{item_there}
 
 -- n numbers of k bytes each that fill the bytes bs, laid one after another over the list l
@@ -85,14 +89,15 @@ module _ (offset width n : ℕ) (bs : List ℕ) (c : Columns) where
           cond-made (buckets_laid offset width n bs c).counts c.counts
           (and_holds there (le-leb (offset + n) (length c.counts) (wide_of (offset + n) c h).counts))
 
-  -- the call, for each kind of message
-  pub lay_ibf : (size salt : ℕ) → lay_buckets offset width n bs c ≡ lay_as (Ibf size offset salt width n) bs c
+-- the call, for each kind of message
+module _ (s : Slice) (bs : List ℕ) (c : Columns) where
+  pub lay_ibf : lay_buckets s.offset s.width s.count bs c ≡ lay_as (Ibf s) bs c
   unfolding lay_buckets lay_as lay_refusal laid content
-  lay_ibf size salt = lay_either (has_room (offset + n) c) (buckets_laid offset width n bs c) c
+  lay_ibf = lay_either (has_room (s.offset + s.count) c) (buckets_laid s.offset s.width s.count bs c) c
 
-  pub lay_last : (size salt : ℕ) → lay_buckets offset width n bs c ≡ lay_as (IbfLast size offset salt width n) bs c
+  pub lay_last : lay_buckets s.offset s.width s.count bs c ≡ lay_as (IbfLast s) bs c
   unfolding lay_buckets lay_as lay_refusal laid content
-  lay_last size salt = lay_either (has_room (offset + n) c) (buckets_laid offset width n bs c) c
+  lay_last = lay_either (has_room (s.offset + s.count) c) (buckets_laid s.offset s.width s.count bs c) c
 
 none-asked : (c : Columns) → has_room 0 c ≡ true
 unfolding has_room
@@ -107,11 +112,43 @@ lay_other m bs c e h =
     refused =
         ap₂ (λ (k : ℕ) (b : Bool). first_of ((Room, has_room k c) ∷ (Malformed, b) ∷ [])) e h ∙ ap (λ (t : Bool). cond t Malformed Room) (none-asked c)
 
-pub lay-known : (bs : List ℕ) {m : Message} (c : Columns) → parse bs ≡ m → lay_as m bs c ≡ lay_call bs c
-unfolding lay_call
-lay-known bs c e = ap (λ (m : Message). lay_as m bs c) (sym e)
+-- what is read of the bytes, and the slice that it is, if it is one
+module _ (bs : List ℕ) (c : Columns) where
+  known : {m : Message} → Some m ≡ parse bs → lay_as m bs c ≡ lay_call bs c
+  unfolding lay_call
+  known e = ap (λ (x : Option Message). lay_read x bs c) e
 
--- what `lay_slice` asks holds of a slice that was read
-pub sliced-lays : {bs : List ℕ} {type size offset salt width n : ℕ} → Sliced bs type size offset salt width n
-    → (offset ≤ 4096) × (n ≤ 2520) × (takes width n (16 + 12 * n) (length bs) ≡ true)
-sliced-lays s = (omega arith, s.few, sliced-takes s)
+  pub lay_none : (x : Option Message) {r : Option Slice} → x ≡ parse bs → MatchOption x (r ≡ Nothing) (λ m. r ≡ slice_as m) → r ≡ Nothing → lay Malformed c ≡ lay_call bs c
+  unfolding lay_call
+  lay_none Nothing e t n = ap (λ (x : Option Message). lay_read x bs c) e
+  lay_none (Some (Ibf s)) e t n = let q : Some s ≡ Nothing = sym t ∙ n in cc
+  lay_none (Some (IbfLast s)) e t n = let q : Some s ≡ Nothing = sym t ∙ n in cc
+  lay_none (Some (Inquiry salt k)) e t n = lay_other (Inquiry salt k) bs c refl refl ∙ known e
+  lay_none (Some (Offer k)) e t n = lay_other (Offer k) bs c refl refl ∙ known e
+  lay_none (Some (Demand k)) e t n = lay_other (Demand k) bs c refl refl ∙ known e
+  lay_none (Some (Element k)) e t n = lay_other (Element k) bs c refl refl ∙ known e
+  lay_none (Some Done) e t n = lay_other Done bs c refl refl ∙ known e
+
+  -- what `lay_slice` asks holds of a slice that was read, and it answers the call
+  pub record Lays (s : Slice) : Type 0 where
+    pub asks : (s.offset ≤ 4096) × (s.count ≤ 2520) × (takes s.width s.count (16 + 12 * s.count) (length bs) ≡ true)
+    pub answers : lay_buckets s.offset s.width s.count bs c ≡ lay_call bs c
+
+  sliced-lays : {type : ℕ} {s : Slice} → Sliced bs type s → lay_buckets s.offset s.width s.count bs c ≡ lay_call bs c → Lays s
+  sliced-lays l e = record { asks = (omega arith, l.few, sliced-takes l); answers = e }
+
+  pub lay_some : (x : Option Message) {r : Option Slice} {s : Slice} → x ≡ parse bs → MatchOption x (r ≡ Nothing) (λ m. r ≡ slice_as m) → r ≡ Some s → Lays s
+  lay_some Nothing {s = s} e t n = let q : Nothing ≡ Some s = sym t ∙ n in cc
+  lay_some (Some (Ibf t)) {s = s} e h n =
+      let q : Some t ≡ Some s = sym h ∙ n in
+      let same : t ≡ s = cc in
+      subst Lays same (sliced-lays (shape bs (sym e)) (lay_ibf t bs c ∙ known e))
+  lay_some (Some (IbfLast t)) {s = s} e h n =
+      let q : Some t ≡ Some s = sym h ∙ n in
+      let same : t ≡ s = cc in
+      subst Lays same (sliced-lays (shape bs (sym e)) (lay_last t bs c ∙ known e))
+  lay_some (Some (Inquiry salt k)) {s = s} e h n = let q : Nothing ≡ Some s = sym h ∙ n in cc
+  lay_some (Some (Offer k)) {s = s} e h n = let q : Nothing ≡ Some s = sym h ∙ n in cc
+  lay_some (Some (Demand k)) {s = s} e h n = let q : Nothing ≡ Some s = sym h ∙ n in cc
+  lay_some (Some (Element k)) {s = s} e h n = let q : Nothing ≡ Some s = sym h ∙ n in cc
+  lay_some (Some Done) {s = s} e h n = let q : Nothing ≡ Some s = sym h ∙ n in cc

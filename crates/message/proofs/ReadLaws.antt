@@ -9,21 +9,22 @@ use borrow.Author.Tests.{le-leb, lt-leb, eq-eqb, ne_eqb, ltb-true, leb-true, eqb
 use lib.Dec.{eqb, ltb}
 use lib.ListN.{length, drop, length-take}
 use lib.Pow.{pow_mono}
+use Rattle.std.proofs.Common.{Some, None}
 use Rattle.bucket.specs.Lists.{part}
 use Rattle.bucket.specs.Packing.{is_bare}
 use Rattle.bucket.proofs.DigitLaws.{joined_lt}
-use Rattle.message.specs.declared.kinds.Message.TheVariants.{Inquiry, Malformed}
+use Rattle.message.specs.declared.kinds.Message.TheVariants.{Inquiry}
 use Rattle.message.specs.Layout.{IBF, IBF_LAST, in_slice, slice_type, slice_bytes}
 use Rattle.message.specs.Reading.{field, slice_fits, slice_head, slice_of, parse, parse_body, parse_inquiry, parse_slice}
 
 pub both : (a b : Bool) → (a && b) ≡ true → (a ≡ true) × (b ≡ true)
 both a b h = (and-eq-true_iff a b).0 h
 
-pub short : (bs : List ℕ) → length bs < 4 → Malformed ≡ parse bs
+pub short : (bs : List ℕ) → length bs < 4 → None ≡ parse bs
 unfolding parse
 short bs h = rw (lt-leb 4 (length bs) h)
 
-pub other_size : (bs : List ℕ) → (field 2 0 bs ≡ length bs → ⊥) → 4 ≤ length bs → Malformed ≡ parse bs
+pub other_size : (bs : List ℕ) → (field 2 0 bs ≡ length bs → ⊥) → 4 ≤ length bs → None ≡ parse bs
 unfolding parse
 other_size bs h l = rw (le-leb 4 (length bs) l, ne_eqb (field 2 0 bs) (length bs) h)
 
@@ -34,11 +35,11 @@ typed bs t l h e = rw (le-leb 4 (length bs) l, eq-eqb (field 2 0 bs) (length bs)
 
 -- an INQUIRY of whole IDs with a salt in range, and any other
 module _ (bs : List ℕ) {salt : ℕ} (l : 16 ≤ length bs) (e : salt ≡ field 4 4 bs) where
-  pub inquiry-whole : (eqb (length bs % 8) 0 && ltb salt 64) ≡ true → Inquiry salt ((length bs - 8) / 8) ≡ parse_inquiry bs
+  pub inquiry-whole : (eqb (length bs % 8) 0 && ltb salt 64) ≡ true → Some (Inquiry salt ((length bs - 8) / 8)) ≡ parse_inquiry bs
   unfolding parse_inquiry
   inquiry-whole h = rw (le-leb 16 (length bs) l, ← e, h)
 
-  pub inquiry_torn : (eqb (length bs % 8) 0 && ltb salt 64) ≡ false → Malformed ≡ parse_inquiry bs
+  pub inquiry_torn : (eqb (length bs % 8) 0 && ltb salt 64) ≡ false → None ≡ parse_inquiry bs
   unfolding parse_inquiry
   inquiry_torn h = rw (le-leb 16 (length bs) l, ← e, h)
 
@@ -84,7 +85,7 @@ slice-ranges type size offset salt width len h =
       all = eqb-true len (slice_bytes width (in_slice size offset)) h8.1;
     }
 
-pub slice-short : (t : ℕ) (bs : List ℕ) → length bs < 16 → Malformed ≡ parse_slice t bs
+pub slice-short : (t : ℕ) (bs : List ℕ) → length bs < 16 → None ≡ parse_slice t bs
 unfolding parse_slice
 slice-short t bs h = rw (lt-leb 16 (length bs) h)
 
@@ -101,13 +102,13 @@ field_lt k at bs =
 
 -- a slice whose numbers do not fit, whose spare bits are not zero, and one that is good
 module _ (t size offset salt width : ℕ) (bs : List ℕ) where
-  pub slice_unfit : slice_fits t size offset salt width (length bs) ≡ false → Malformed ≡ slice_of t size offset salt width bs
+  pub slice_unfit : slice_fits t size offset salt width (length bs) ≡ false → None ≡ slice_of t size offset salt width bs
   slice_unfit h = rw h
 
   pub slice-spare : (n : ℕ) → n ≡ in_slice size offset → slice_fits t size offset salt width (length bs) ≡ true → is_bare width n (16 + 12 * n) bs ≡ false
-      → Malformed ≡ slice_of t size offset salt width bs
+      → None ≡ slice_of t size offset salt width bs
   slice-spare n e h z = rw (h, ← e, z)
 
   pub slice-good : (n : ℕ) → n ≡ in_slice size offset → slice_fits t size offset salt width (length bs) ≡ true → is_bare width n (16 + 12 * n) bs ≡ true
-      → slice_head t size offset salt width ≡ slice_of t size offset salt width bs
+      → Some (slice_head t size offset salt width) ≡ slice_of t size offset salt width bs
   slice-good n e h z = rw (h, rw e at z)

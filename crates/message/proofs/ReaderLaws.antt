@@ -37,16 +37,21 @@ use denote.Struct.Rest.{own_shut}
 use denote.Triple.Statement.{Contract}
 use denote.Triple.Spec.{triple_of}
 use denote.Triple.Clauses.{ensured, lasts}
-use Rattle.message.specs.Walking.{walk_at, behind, reader_at, next_of}
+use Rattle.message.specs.Walking.{Walked, walk_at, behind, reader_at, next_of}
 use Rattle.message.specs.declared.reader.Reader.{Reader}
 use Rattle.message.specs.declared.reader.Taken.{Taken}
-use Rattle.message.specs.declared.walking.Walked.{Walked}
 use Rattle.message.specs.contracts.reader.Reader as T
 use Rattle.message.proofs.reader.Reader.TheLaws as T'
 use Rattle.message.specs.contracts.reader.Taken as N
 use Rattle.message.proofs.reader.Taken.TheLaws as N'
-use Rattle.message.specs.contracts.walking.Walked as S
-use Rattle.message.proofs.walking.Walked.TheLaws as S'
+use Rattle.std.specs.contracts.option.Option as O
+use Rattle.std.proofs.option.Option.TheLaws as O'
+use Rattle.std.specs.contracts.result.Result as S
+use Rattle.std.proofs.result.Result.TheLaws as S'
+use Rattle.message.specs.contracts.walking.Found as F
+use Rattle.message.proofs.walking.Found.TheLaws as F'
+use Rattle.message.specs.contracts.walking.Broken as B
+use Rattle.message.proofs.walking.Broken.TheLaws as B'
 use Rattle.message.specs.contracts.reader.new as new
 use Rattle.message.specs.contracts.reader.next as next
 
@@ -56,6 +61,13 @@ Readers κ = T.the_row (named_lft 1 0 tt (κ, tt))
 
 abbrev pub Answers : Lft → RattleType
 Answers κ = N.the_row (named_lft 1 0 tt (κ, tt))
+
+-- the type of what stands at a position: a message or none, if it is not the end
+abbrev Steps : RattleType
+Steps = S.the_row F.the_row B.the_row
+
+abbrev pub Walks : RattleType
+Walks = O.the_row Steps
 
 abbrev pub erased_at : Lft → NamedLft
 erased_at κ = record { mir = erased; lft = κ }
@@ -78,7 +90,10 @@ module _ (κ : Lft) (s : Bor (List ℕ)) (n : ℕ) where
   lowered t = LL.val (N.the_type (erased_at κ)) (N'.the_laws (erased_at κ)) t
 
   abbrev pub lowered-found : Val
-  lowered-found = EL.val S.the_type S'.the_laws found
+  lowered-found =
+      EL.val (O.the_type Steps)
+      (O'.the_laws Steps (S'.the_row_laws F.the_row B.the_row F'.the_row_laws B'.the_row_laws)
+      (S'.the_told F.the_row B.the_row F'.the_row_laws B'.the_row_laws F'.the_told B'.the_told)) found
 
   pub reader_comes : (r : Reader) → r ≡ reader → (u : Val) → Is (T.the_row (erased_at κ)) r (u ∷ []) → u ≡ T'.lowered reader
   reader_comes r e u is = ap only (LL.tells (T.the_type (erased_at κ)) (T'.the_laws (erased_at κ)) r _ is) ∙ ap T'.lowered e
@@ -94,7 +109,7 @@ module _ (κ : Lft) (s : Bor (List ℕ)) (n : ℕ) where
     answered = subst (λ (x : Taken). Is (N.the_row (erased_at κ)) x (lowered x ∷ [])) e (subst (Is (N.the_row (erased_at κ)) t) tells is)
 
   module _ (is : Is (N.the_row (erased_at κ)) answer (lowered answer ∷ [])) where
-    pub found_is : Is S.the_row found (lowered-found ∷ [])
+    pub found_is : Is Walks found (lowered-found ∷ [])
     found_is = (LL.owed (N.the_type (erased_at κ)) (N'.the_laws (erased_at κ)) answer _ is).0
 
     pub after_is : Is (T.the_row (erased_at κ)) (reader_at s after) (T'.lowered (reader_at s after) ∷ [])

@@ -1,4 +1,4 @@
--- What is read is what was written: bytes that are not malformed are the layout of what they say, which is in range. Assumes nothing.
+-- What is read is what was written: bytes that are a message are the layout of what they say, which is in range. Assumes nothing.
 use mathlib.Core.Path.{◌≡◌, refl, sym, ap, ap₂, ◌∙◌}
 use mathlib.Core.Bool.{true, ◌&&◌, ◌||◌}
 use mathlib.Core.List.{List, [], ◌∷◌, ◌++◌, append-nil}
@@ -9,6 +9,7 @@ use borrow.Author.Tests.{leb-true, eqb-true, le-leb}
 use lib.Dec.{eqb, ltb, leb}
 use lib.ListN.{length, drop, length-drop}
 use lib.Seq.{take_all}
+use Rattle.std.proofs.Common.{Option, Some, None}
 use Rattle.bucket.specs.Digits.{bytes_for, spare, joined, packed, unpacked, spare_bits, Below}
 use Rattle.bucket.specs.Lists.{part}
 use Rattle.bucket.specs.Packing.{takes, counters_at, is_bare}
@@ -16,8 +17,8 @@ use Rattle.bucket.proofs.DigitLaws.{groups-below, groups-joined, joined_lt}
 use Rattle.bucket.proofs.OverLaws.{number_lt, part_length}
 use Rattle.bucket.proofs.PackedLaws.{unpacked-length, packed-unpacked}
 use Rattle.message.specs.declared.kinds.Message.{Message}
-use Rattle.message.specs.declared.kinds.Message.TheVariants.{Inquiry, Offer, Demand, Element, Done, Malformed}
-use Rattle.message.specs.Layout.{DEMAND, INQUIRY, OFFER, IBF, ELEMENT, IBF_LAST, DONE, Good, Many, Slice, slice, layout, framed, in_slice, slice_type}
+use Rattle.message.specs.declared.kinds.Message.TheVariants.{Inquiry, Offer, Demand, Element, Done}
+use Rattle.message.specs.Layout.{DEMAND, INQUIRY, OFFER, IBF, ELEMENT, IBF_LAST, DONE, Good, Many, GoodSlice, slice, layout, framed, in_slice, slice_type}
 use Rattle.message.specs.Reading.{field, content, head, slice_fits, slice_head, parse, parse_body, parse_slice, parse_inquiry, hashes_fit}
 use Rattle.message.proofs.FrameLaws.{framed-back}
 use Rattle.message.proofs.ReadLaws.{both, Ranges, slice-ranges}
@@ -29,8 +30,10 @@ pub record Told (bs : List ℕ) (m : Message) : Type 0 where
   pub bytes : layout (content m bs) ≡ bs
   pub same : head (content m bs) ≡ m
 
-abbrev pub Sound : List ℕ → Message → Type 0
-Sound bs m = (m ≡ Malformed) ⊎ Told bs m
+-- nothing is read, or the layout of what the bytes say
+abbrev pub Sound : List ℕ → Option Message → Type 0
+Sound bs None = Unit {0}
+Sound bs (Some m) = Told bs m
 
 unpacked-below : (w n : ℕ) (l : List ℕ) → Below w (unpacked w n l)
 unfolding unpacked
@@ -181,7 +184,7 @@ module _ (bs : List ℕ) (below : Below 8 bs) (four : 4 ≤ length bs) (size : f
           (ap₂ (λ (a b : List ℕ). a ++ b) hashes (counts ∙ end ∙ ap (λ (k : ℕ). drop k bs) twelve) ∙ part-rest (16 + 8 * n) (4 * n) bs)
           ∙ part-rest 16 (8 * n) bs
 
-      good : Slice size' offset salt width xs ys zs
+      good : GoodSlice size' offset salt width xs ys zs
       good =
           record {
             ranges = (both _ _ (both _ _ g).0).0;
@@ -210,27 +213,27 @@ module _ (bs : List ℕ) (below : Below 8 bs) (four : 4 ≤ length bs) (size : f
       (λ a. choose (Sound bs) (leb 16 (length bs))
       (λ h. choose (Sound bs) (slice_fits t (field 4 4 bs) (field 4 8 bs) (field 2 12 bs) (field 2 14 bs) (length bs))
       (λ g. choose (Sound bs) (is_bare (field 2 14 bs) (in_slice (field 4 4 bs) (field 4 8 bs)) (16 + 12 * in_slice (field 4 4 bs) (field 4 8 bs)) bs)
-      (λ z. inr (slices t e g z)) (λ z. inl refl))
-      (λ g. inl refl))
-      (λ h. inl refl))
+      (λ z. slices t e g z) (λ z. tt))
+      (λ g. tt))
+      (λ h. tt))
       (λ a. choose (Sound bs) (eqb t INQUIRY)
       (λ b. choose (Sound bs) (leb 16 (length bs))
-      (λ h. choose (Sound bs) (eqb (length bs % 8) 0 && ltb (field 4 4 bs) 64) (λ g. inr (inquiries (e ∙ eqb-true t INQUIRY b) h g)) (λ g. inl refl))
-      (λ h. inl refl))
+      (λ h. choose (Sound bs) (eqb (length bs % 8) 0 && ltb (field 4 4 bs) 64) (λ g. inquiries (e ∙ eqb-true t INQUIRY b) h g) (λ g. tt))
+      (λ h. tt))
       (λ b. choose (Sound bs) (eqb t OFFER)
-      (λ b. choose (Sound bs) (hashes_fit (length bs)) (λ h. inr (offers (e ∙ eqb-true t OFFER b) h)) (λ h. inl refl))
+      (λ b. choose (Sound bs) (hashes_fit (length bs)) (λ h. offers (e ∙ eqb-true t OFFER b) h) (λ h. tt))
       (λ b. choose (Sound bs) (eqb t DEMAND)
-      (λ b. choose (Sound bs) (hashes_fit (length bs)) (λ h. inr (demands (e ∙ eqb-true t DEMAND b) h)) (λ h. inl refl))
+      (λ b. choose (Sound bs) (hashes_fit (length bs)) (λ h. demands (e ∙ eqb-true t DEMAND b) h) (λ h. tt))
       (λ b. choose (Sound bs) (eqb t ELEMENT)
-      (λ b. choose (Sound bs) (leb 5 (length bs)) (λ h. inr (elements (e ∙ eqb-true t ELEMENT b) h)) (λ h. inl refl))
+      (λ b. choose (Sound bs) (leb 5 (length bs)) (λ h. elements (e ∙ eqb-true t ELEMENT b) h) (λ h. tt))
       (λ b. choose (Sound bs) (eqb t DONE)
-      (λ b. choose (Sound bs) (eqb (length bs) 68) (λ h. inr (dones (e ∙ eqb-true t DONE b) h)) (λ h. inl refl))
-      (λ b. inl refl))))))
+      (λ b. choose (Sound bs) (eqb (length bs) 68) (λ h. dones (e ∙ eqb-true t DONE b) h) (λ h. tt))
+      (λ b. tt))))))
 
--- bytes are malformed, or the layout of what they say
+-- bytes are no message, or the layout of what they say
 pub sound : (bs : List ℕ) → Below 8 bs → Sound bs (parse bs)
 unfolding parse
 sound bs below =
     choose (Sound bs) (leb 4 (length bs) && eqb (field 2 0 bs) (length bs))
     (λ h. let h' = both _ _ h in body bs below (leb-true 4 (length bs) h'.0) (eqb-true (field 2 0 bs) (length bs) h'.1) (field 2 2 bs) refl)
-    (λ h. inl refl)
+    (λ h. tt)

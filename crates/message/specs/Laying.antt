@@ -7,7 +7,7 @@
 --
 -- A message that is no slice asks for no room, so 2 and 4 never meet.
 -- Assumes nothing.
-use Rattle.std.specs.Prelude.{Bool, true, false, cond, List, [], ◌∷◌, map, ℕ, ◌+◌, eqb, pos}
+use Rattle.std.specs.Prelude.{Bool, true, false, cond, List, [], ◌∷◌, map, ℕ, ◌+◌, eqb, pos, Option, Some, None}
 use Rattle.bucket.specs.Columns.{Columns, columns}
 use Rattle.bucket.specs.Lists.{over}
 use Rattle.filter.specs.declared.answers.Refusal.{Refusal}
@@ -30,24 +30,22 @@ laid (element bytes) c = c
 laid (done check) c = c
 
 abbrev pub is_slice : Message → Bool
-is_slice (Ibf size offset salt width n) = true
-is_slice (IbfLast size offset salt width n) = true
+is_slice (Ibf s) = true
+is_slice (IbfLast s) = true
 is_slice (Inquiry salt n) = false
 is_slice (Offer n) = false
 is_slice (Demand n) = false
 is_slice (Element n) = false
 is_slice Done = false
-is_slice Message.Malformed = false
 
 abbrev pub slice_end : Message → ℕ
-slice_end (Ibf size offset salt width n) = offset + n
-slice_end (IbfLast size offset salt width n) = offset + n
+slice_end (Ibf s) = s.offset + s.count
+slice_end (IbfLast s) = s.offset + s.count
 slice_end (Inquiry salt n) = 0
 slice_end (Offer n) = 0
 slice_end (Demand n) = 0
 slice_end (Element n) = 0
 slice_end Done = 0
-slice_end Message.Malformed = 0
 
 unfoldable pub lay_refusal : Message → Columns → Refusal
 lay_refusal m c = first_of ((Room, has_room (slice_end m) c) ∷ (Malformed, is_slice m) ∷ [])
@@ -64,8 +62,13 @@ lay_as m bs c =
     let r = lay_refusal m c in
     lay r (cond (eqb (refusal_number r) 0) (laid (content m bs) c) c)
 
+-- bytes that are no message are refused with 4 too
+abbrev pub lay_read : Option Message → List ℕ → Columns → Lay
+lay_read (Some m) bs c = lay_as m bs c
+lay_read None bs c = lay Malformed c
+
 unfoldable pub lay_call : List ℕ → Columns → Lay
-lay_call bs c = lay_as (parse bs) bs c
+lay_call bs c = lay_read (parse bs) bs c
 
 abbrev pub lay_numbers : Lay → Build
 lay_numbers l = built (refusal_number l.refusal) l.columns

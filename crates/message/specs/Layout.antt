@@ -80,7 +80,7 @@ abbrev pub slice_good : ℕ → ℕ → ℕ → ℕ → Bool
 slice_good size offset salt width =
     leb 37 size && leb size 4096 && (eqb offset 0 || eqb offset 2520) && ltb offset size && ltb salt 64 && leb 1 width && leb width 32
 
-pub record Slice (size offset salt width : ℕ) (ids hashes counts : List ℕ) : Type 0 where
+pub record GoodSlice (size offset salt width : ℕ) (ids hashes counts : List ℕ) : Type 0 where
   pub ranges : slice_good size offset salt width ≡ true
   pub n-ids : length ids ≡ in_slice size offset
   pub n-hashes : length hashes ≡ in_slice size offset
@@ -95,7 +95,7 @@ pub record Many (w high : ℕ) (xs : List ℕ) : Type 0 where
   pub fit : Below w xs
 
 abbrev pub Good : Content → Type 0
-Good (slice size offset salt width ids hashes counts) = Slice size offset salt width ids hashes counts
+Good (slice size offset salt width ids hashes counts) = GoodSlice size offset salt width ids hashes counts
 Good (inquiry salt ids) = (ltb salt 64 ≡ true) × Many 64 8190 ids
 Good (offer hashes) = Many 512 1023 hashes
 Good (demand hashes) = Many 512 1023 hashes

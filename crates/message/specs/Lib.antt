@@ -1,5 +1,6 @@
 -- The definitions of the crate `message`, in the order in which a reader meets them.
 pub mod Layout
+pub mod Kinds
 pub mod Reading
 pub mod Items
 pub mod Laying

@@ -1,18 +1,17 @@
 -- The numbers of document 01 that the definitions of messages hold, once more and by themselves: a wrong number in a definition, which code and
 -- proofs would follow, breaks a line here. Each stands under the paper's words.
 -- Assumes nothing.
-use Rattle.std.specs.Prelude.{◌≡◌, refl, true, false, ◌&&◌, List, [], ◌∷◌, ℕ, ltb, leb, length, replicate}
+use Rattle.std.specs.Prelude.{◌≡◌, refl, true, false, ◌&&◌, List, [], ◌∷◌, ℕ, ltb, leb, length, replicate, Some, None}
 use Rattle.bucket.specs.Columns.{Columns}
 use Rattle.bucket.specs.Crc.{tabulated}
 use Rattle.bucket.specs.Digits.{joined, groups, packed, Below}
 use Rattle.filter.specs.declared.answers.Refusal.TheVariants.{Form, Room, Range, Malformed}
 use Rattle.filter.specs.Table.{hashes_of}
-use Rattle.message.specs.declared.kinds.Message.{Message}
+use Rattle.message.specs.declared.kinds.Message.TheVariants.{Done}
 use Rattle.message.specs.declared.kinds.Wrote.TheVariants.{To, Refused}
-use Rattle.message.specs.declared.walking.Walked.TheVariants.{Broken, End}
 use Rattle.message.specs.Layout.{DEMAND, INQUIRY, OFFER, IBF, ELEMENT, IBF_LAST, DONE, inquiry, offer, demand, element, done, layout, framed, in_slice, slice_type, slice_bytes, slice_good, Good}
 use Rattle.message.specs.Reading.{numbers_of}
-use Rattle.message.specs.Walking.{walk_numbers}
+use Rattle.message.specs.Walking.{broken, walk_numbers}
 use Rattle.message.specs.Writing.{layouts, pieces_of, inquiries_of, offers_of, demands_of, slices_of, have_room, wrote, inquiry_call, hashes_call, element_call, done_call, written_of}
 
 -- "37 buckets at width 2 is 470 bytes; 4,096 at width 4 is 31,516 then 19,716."
@@ -103,10 +102,10 @@ cuts = (refl, refl, refl, refl, refl, refl)
 
 -- refusal 4: "message malformed"
 pub refusals :
-    ((numbers_of Message.Malformed 5 9).refusal ≡ 4)
-    × ((walk_numbers (Broken 5) 5).refusal ≡ 4)
-    × ((walk_numbers End 5).refusal ≡ 0)
-    × ((numbers_of Message.Done 5 73).refusal ≡ 0)
+    ((numbers_of None 5 9).refusal ≡ 4)
+    × ((walk_numbers (broken 5) 5).refusal ≡ 4)
+    × ((walk_numbers None 5).refusal ≡ 0)
+    × ((numbers_of (Some Done) 5 73).refusal ≡ 0)
     × ((written_of (Refused Malformed)).refusal ≡ 4)
     × ((written_of (To 9)).refusal ≡ 0)
 refusals = (refl, refl, refl, refl, refl, refl)

@@ -1,6 +1,6 @@
 // What a message is, read into its kind and numbers; what a writer answers; and both as numbers for C.
 ghost use Rattle.std.specs.Prelude.{◌≡◌};
-ghost use Rattle.filter.specs.declared.answers.Refusal.TheVariants.{None};
+ghost use Rattle.message.specs.Kinds.{kind_named, kind_of, slice_as, type_of};
 ghost use Rattle.message.specs.Reading.{numbered, numbers_of};
 ghost use Rattle.message.specs.Writing.{written_of};
 
@@ -21,6 +21,59 @@ pub const IBF_LAST: u32 = 567;
 
 pub const DONE: u32 = 568;
 
+// The kinds of messages, in the order of the grid's columns.
+#[derive(Clone, Copy, PartialEq, Eq)]
+pub enum Kind {
+    // a slice of a filter that does not reach its end
+    Ibf,
+    // the slice that reaches the end
+    IbfLast,
+    Inquiry,
+    Offer,
+    Demand,
+    Element,
+    Done,
+}
+
+// A number that is no kind's MSG TYPE.
+#[derive(Clone, Copy, PartialEq, Eq)]
+pub struct UnknownType(pub u32);
+
+impl TryFrom<u32> for Kind {
+    type Error = UnknownType;
+
+    ghost try_from_gives = { λ number r. r ≡ kind_named number };
+
+    fn try_from(number: u32) -> Result<Self, UnknownType> {
+        match number {
+            IBF => Ok(Kind::Ibf),
+            IBF_LAST => Ok(Kind::IbfLast),
+            INQUIRY => Ok(Kind::Inquiry),
+            OFFER => Ok(Kind::Offer),
+            DEMAND => Ok(Kind::Demand),
+            ELEMENT => Ok(Kind::Element),
+            DONE => Ok(Kind::Done),
+            _ => Err(UnknownType(number)),
+        }
+    }
+}
+
+impl From<Kind> for u32 {
+    ghost from_gives = { λ kind number. number ≡ type_of kind };
+
+    fn from(kind: Kind) -> u32 {
+        match kind {
+            Kind::Ibf => IBF,
+            Kind::IbfLast => IBF_LAST,
+            Kind::Inquiry => INQUIRY,
+            Kind::Offer => OFFER,
+            Kind::Demand => DEMAND,
+            Kind::Element => ELEMENT,
+            Kind::Done => DONE,
+        }
+    }
+}
+
 // The numbers of a slice: those of its filter, its offset in it, the width of its counters, and how many buckets it has.
 #[derive(Clone, Copy, PartialEq, Eq)]
 pub struct Slice {
@@ -32,24 +85,10 @@ pub struct Slice {
 }
 
 // The kind and numbers of a message. Its items stay in the bytes and are read by number (items).
-#[derive(Clone, Copy)]
+#[derive(Clone, Copy, PartialEq, Eq)]
 pub enum Message {
-    // a slice of a filter that does not reach its end
-    Ibf {
-        size: u32,
-        offset: u32,
-        salt: u32,
-        width: u32,
-        count: usize,
-    },
-    // the slice that reaches the end
-    IbfLast {
-        size: u32,
-        offset: u32,
-        salt: u32,
-        width: u32,
-        count: usize,
-    },
+    Ibf(Slice),
+    IbfLast(Slice),
     Inquiry {
         salt: u32,
         count: usize,
@@ -65,8 +104,32 @@ pub enum Message {
         length: usize,
     },
     Done,
-    // no message
-    Malformed,
+}
+
+impl Message {
+    pub fn kind(self) -> Kind
+        ensures { result ≡ kind_of self }
+    {
+        match self {
+            Message::Ibf(_) => Kind::Ibf,
+            Message::IbfLast(_) => Kind::IbfLast,
+            Message::Inquiry { .. } => Kind::Inquiry,
+            Message::Offer { .. } => Kind::Offer,
+            Message::Demand { .. } => Kind::Demand,
+            Message::Element { .. } => Kind::Element,
+            Message::Done => Kind::Done,
+        }
+    }
+
+    // The slice that the message is, if it is one.
+    pub fn slice(self) -> Option<Slice>
+        ensures { result ≡ slice_as self }
+    {
+        match self {
+            Message::Ibf(slice) | Message::IbfLast(slice) => Some(slice),
+            _ => None,
+        }
+    }
 }
 
 // What a writer answers: the position behind what it wrote, or why it wrote nothing.
@@ -99,72 +162,54 @@ pub struct Written {
     pub next: usize,
 }
 
-pub fn message_numbers(m: Message, start: usize, next: usize) -> MessageNumbers
+// A message from start up to next, or that there is none at start.
+pub fn message_numbers(m: Option<Message>, start: usize, next: usize) -> MessageNumbers
     ensures { result ≡ numbers_of m start next }
 {
+    let Some(m) = m else {
+        return MessageNumbers {
+            refusal: filter::answers::refusal_number(Refusal::Malformed),
+            ..place(0, start, start)
+        };
+    };
+    let found = place(u32::from(m.kind()), start, next);
     match m {
-        Message::Ibf {
-            size,
-            offset,
+        Message::Ibf(slice) | Message::IbfLast(slice) => MessageNumbers {
+            size: slice.size,
+            offset: slice.offset,
+            salt: slice.salt,
+            width: slice.width,
+            count: slice.count,
+            ..found
+        },
+        Message::Inquiry { salt, count } => MessageNumbers {
             salt,
-            width,
             count,
-        } => found(IBF, size, offset, salt, width, count, start, next),
-        Message::IbfLast {
-            size,
-            offset,
-            salt,
-            width,
-            count,
-        } => found(IBF_LAST, size, offset, salt, width, count, start, next),
-        Message::Inquiry { salt, count } => found(INQUIRY, 0, 0, salt, 0, count, start, next),
-        Message::Offer { count } => found(OFFER, 0, 0, 0, 0, count, start, next),
-        Message::Demand { count } => found(DEMAND, 0, 0, 0, 0, count, start, next),
-        Message::Element { length } => found(ELEMENT, 0, 0, 0, 0, length, start, next),
-        Message::Done => found(DONE, 0, 0, 0, 0, 1, start, next),
-        Message::Malformed => numbered(Refusal::Malformed, 0, 0, 0, 0, 0, 0, start, start),
+            ..found
+        },
+        Message::Offer { count } | Message::Demand { count } => MessageNumbers { count, ..found },
+        Message::Element { length } => MessageNumbers {
+            count: length,
+            ..found
+        },
+        Message::Done => MessageNumbers { count: 1, ..found },
     }
 }
 
-fn found(
-    kind: u32,
-    size: u32,
-    offset: u32,
-    salt: u32,
-    width: u32,
-    count: usize,
-    start: usize,
-    next: usize,
-) -> MessageNumbers
-    ensures { result ≡ numbered None kind size offset salt width count start next }
-{
-    let why = Refusal::None;
-    numbered(why, kind, size, offset, salt, width, count, start, next)
-}
-
-pub(crate) fn numbered(
-    why: Refusal,
-    kind: u32,
-    size: u32,
-    offset: u32,
-    salt: u32,
-    width: u32,
-    count: usize,
-    start: usize,
-    next: usize,
-) -> MessageNumbers
-    ensures { result ≡ numbered why kind size offset salt width count start next }
+// A kind's number and a place alone: nothing is refused, and nothing is counted.
+pub(crate) fn place(kind: u32, start: usize, next: usize) -> MessageNumbers
+    ensures { result ≡ numbered 0 kind 0 0 0 0 0 start next }
 {
     MessageNumbers {
-        refusal: filter::answers::refusal_number(why),
-        kind: kind,
-        size: size,
-        offset: offset,
-        salt: salt,
-        width: width,
-        count: count,
-        start: start,
-        next: next,
+        refusal: 0,
+        kind,
+        size: 0,
+        offset: 0,
+        salt: 0,
+        width: 0,
+        count: 0,
+        start,
+        next,
     }
 }
 

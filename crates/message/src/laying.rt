@@ -12,28 +12,23 @@ use filter::answers::Refusal;
 
 // Lays the slice of an IBF or IBF LAST message into the columns, from its offset on. Refused: a column too short for it, or no such message;
 // then nothing is changed.
+#[tactic(auto, unfolding(crate::specs::Laying::lay_call))]
 pub fn lay(s: &[u8], ids: &mut [u64], hashes: &mut [u32], counts: &mut [i64]) -> Refusal
     ensures { lay result (columns ids.new hashes.new counts.new)
         ≡ lay_call s.now (columns ids.old hashes.old counts.old) }
 {
-    let m = crate::reading::read(s);
-    match m {
-        Message::Ibf {
-            size: _,
-            offset,
-            salt: _,
-            width,
-            count,
-        } => lay_slice(s, offset, width, count, ids, hashes, counts),
-        Message::IbfLast {
-            size: _,
-            offset,
-            salt: _,
-            width,
-            count,
-        } => lay_slice(s, offset, width, count, ids, hashes, counts),
-        _ => Refusal::Malformed,
-    }
+    let Some(slice) = crate::reading::read(s).and_then(Message::slice) else {
+        return Refusal::Malformed;
+    };
+    lay_slice(
+        s,
+        slice.offset,
+        slice.width,
+        slice.count,
+        ids,
+        hashes,
+        counts,
+    )
 }
 
 // The n buckets that stand in a message's bytes, laid from an offset on.

@@ -1,83 +1,79 @@
-// One message read: its kind and numbers, or malformed.
+// One message read: its kind and numbers, or that the bytes are none.
 ghost use Rattle.std.specs.Prelude.{◌≡◌};
-ghost use Rattle.message.specs.Reading.{hashes_fit, parse, parse_inquiry, parse_slice, slice_fits, slice_head};
+ghost use Rattle.message.specs.Kinds.{type_of};
+ghost use Rattle.message.specs.Layout.{in_slice};
+ghost use Rattle.message.specs.Reading.{hashes_fit, parse, parse_inquiry, parse_slice, slice_fits};
 
-use crate::kinds::{DEMAND, DONE, ELEMENT, IBF, IBF_LAST, INQUIRY, Message, OFFER};
+use crate::kinds::{Kind, Message, Slice};
 
 // The whole of s read as exactly one message.
-pub fn read(s: &[u8]) -> Message
+#[tactic(auto, unfolding(crate::specs::Reading::parse))]
+pub fn read(s: &[u8]) -> Option<Message>
     ensures { result ≡ parse s.now }
 {
     if s.len() < 4 {
-        return Message::Malformed;
+        return None;
     }
     if bucket::bytes::number_at(s, 0, 2) != s.len() as u64 {
-        return Message::Malformed;
+        return None;
     }
-    let kind = crate::fields::word_at(s, 2, 2);
-    if (kind == IBF) | (kind == IBF_LAST) {
-        return read_slice(s, kind);
-    }
-    if kind == INQUIRY {
-        return read_inquiry(s);
-    }
-    if kind == OFFER {
-        if hashes_fit(s.len()) {
-            return Message::Offer {
-                count: s.len() / 64,
-            };
-        }
-        return Message::Malformed;
-    }
-    if kind == DEMAND {
-        if hashes_fit(s.len()) {
-            return Message::Demand {
-                count: s.len() / 64,
-            };
-        }
-        return Message::Malformed;
-    }
-    if kind == ELEMENT {
-        if s.len() < 5 {
-            return Message::Malformed;
-        }
-        return Message::Element {
+    let kind = Kind::try_from(crate::fields::word_at(s, 2, 2)).ok()?;
+    match kind {
+        Kind::Ibf | Kind::IbfLast => read_slice(s, kind),
+        Kind::Inquiry => read_inquiry(s),
+        Kind::Offer if hashes_fit(s.len()) => Some(Message::Offer {
+            count: s.len() / 64,
+        }),
+        Kind::Demand if hashes_fit(s.len()) => Some(Message::Demand {
+            count: s.len() / 64,
+        }),
+        Kind::Element if 5 <= s.len() => Some(Message::Element {
             length: s.len() - 4,
-        };
+        }),
+        Kind::Done if s.len() == 68 => Some(Message::Done),
+        _ => None,
     }
-    if kind == DONE {
-        if s.len() == 68 {
-            return Message::Done;
-        }
-        return Message::Malformed;
-    }
-    Message::Malformed
 }
 
-fn read_slice(s: &[u8], kind: u32) -> Message
-    ensures { result ≡ parse_slice kind s.now }
+#[tactic(auto, unfolding(crate::specs::Reading::parse_slice))]
+fn read_slice(s: &[u8], kind: Kind) -> Option<Message>
+    ensures { result ≡ parse_slice (type_of kind) s.now }
 {
     if s.len() < 16 {
-        return Message::Malformed;
+        return None;
     }
     let size = crate::fields::word_at(s, 4, 4);
     let offset = crate::fields::word_at(s, 8, 4);
-    let salt = crate::fields::word_at(s, 12, 2);
-    let width = crate::fields::word_at(s, 14, 2);
-    if !slice_fits(kind, size, offset, salt, width, s.len()) {
-        return Message::Malformed;
+    let slice = Slice {
+        size,
+        offset,
+        salt: crate::fields::word_at(s, 12, 2),
+        width: crate::fields::word_at(s, 14, 2),
+        count: crate::slices::in_slice(size, offset),
+    };
+    if !slice_fits(kind, slice, s.len()) {
+        return None;
     }
-    let n = crate::slices::in_slice(size, offset);
-    if !bucket::packing::spare_is_zero(s, 16 + 12 * n, n, width) {
-        return Message::Malformed;
+    if !bucket::packing::spare_is_zero(s, 16 + 12 * slice.count, slice.count, slice.width) {
+        return None;
     }
-    slice_head(kind, size, offset, salt, width)
+    Some(match kind {
+        Kind::IbfLast => Message::IbfLast(slice),
+        _ => Message::Ibf(slice),
+    })
 }
 
-fn slice_fits(kind: u32, size: u32, offset: u32, salt: u32, width: u32, len: usize) -> bool
-    ensures { result ≡ slice_fits kind size offset salt width len }
+fn slice_fits(kind: Kind, slice: Slice, len: usize) -> bool
+    requires { slice.count ≡ in_slice slice.size slice.offset }
+    ensures { result ≡ slice_fits (type_of kind) slice.size slice.offset slice.salt slice.width len }
 {
-    let n = crate::slices::in_slice(size, offset);
+    let Slice {
+        size,
+        offset,
+        salt,
+        width,
+        count,
+    } = slice;
     (37 <= size)
         & (size <= 4096)
         & ((offset == 0) | (offset == crate::slices::SECOND))
@@ -85,46 +81,25 @@ fn slice_fits(kind: u32, size: u32, offset: u32, salt: u32, width: u32, len: usi
         & (salt < 64)
         & (1 <= width)
         & (width <= 32)
-        & (kind == crate::slices::slice_type(size, offset))
-        & (len == crate::slices::slice_bytes(width, n))
+        & (u32::from(kind) == crate::slices::slice_type(size, offset))
+        & (len == crate::slices::slice_bytes(width, count))
 }
 
-fn slice_head(kind: u32, size: u32, offset: u32, salt: u32, width: u32) -> Message
-    ensures { result ≡ slice_head kind size offset salt width }
-{
-    let count = crate::slices::in_slice(size, offset);
-    if kind == IBF_LAST {
-        return Message::IbfLast {
-            size,
-            offset,
-            salt,
-            width,
-            count,
-        };
-    }
-    Message::Ibf {
-        size,
-        offset,
-        salt,
-        width,
-        count,
-    }
-}
-
-fn read_inquiry(s: &[u8]) -> Message
+#[tactic(auto, unfolding(crate::specs::Reading::parse_inquiry))]
+fn read_inquiry(s: &[u8]) -> Option<Message>
     ensures { result ≡ parse_inquiry s.now }
 {
     if s.len() < 16 {
-        return Message::Malformed;
+        return None;
     }
     let salt = crate::fields::word_at(s, 4, 4);
     if (s.len() % 8 == 0) & (salt < 64) {
-        return Message::Inquiry {
+        return Some(Message::Inquiry {
             salt,
             count: (s.len() - 8) / 8,
-        };
+        });
     }
-    Message::Malformed
+    None
 }
 
 fn hashes_fit(len: usize) -> bool

@@ -1,70 +1,57 @@
 // A buffer of several messages end to end, walked message by message.
 ghost use Rattle.std.specs.Prelude.{◌≡◌};
-ghost use Rattle.message.specs.Walking.{walk_at, step_of, walk_numbers};
+ghost use Rattle.message.specs.Walking.{walk_at, walk_numbers};
 
 use crate::kinds::{Message, MessageNumbers};
-use filter::answers::Refusal;
 
-// What stands at a position.
-#[derive(Clone, Copy)]
-pub enum Walked {
-    // a message from start up to next
-    Found {
-        message: Message,
-        start: usize,
-        next: usize,
-    },
-    // no message: the walk ends here
-    Broken {
-        start: usize,
-    },
-    // the end of the buffer
-    End,
+// A message from start up to next.
+#[derive(Clone, Copy, PartialEq, Eq)]
+pub struct Found {
+    pub message: Message,
+    pub start: usize,
+    pub next: usize,
 }
 
-// The message at a position of a buffer.
-pub fn walk_at(s: &[u8], at: usize) -> Walked
+// No message: it hands out no further position, so the walk ends here.
+#[derive(Clone, Copy, PartialEq, Eq)]
+pub struct Broken {
+    pub start: usize,
+}
+
+// The message at a position of a buffer, or that none stands there; None is the end of the buffer.
+#[tactic(auto, using(crate::proofs::WalkLaws::walk_broken), unfolding(crate::specs::Walking::walk_at))]
+pub fn walk_at(s: &[u8], at: usize) -> Option<Result<Found, Broken>>
     ensures { result ≡ walk_at s.now at }
 {
     if s.len() <= at {
-        return Walked::End;
+        return None;
     }
     let size = bucket::bytes::number_at(s, at, 2) as usize;
-    let left = s.len() - at;
-    if left < size {
-        return Walked::Broken { start: at };
+    if s.len() - at < size {
+        return Some(Err(Broken { start: at }));
     }
-    let end = at + size;
-    let message = crate::reading::read(&s[at..end]);
-    step_of(message, at, end)
-}
-
-// Only a message hands out a further position.
-fn step_of(message: Message, start: usize, next: usize) -> Walked
-    ensures { result ≡ step_of message start next }
-{
-    if let Message::Malformed = message {
-        return Walked::Broken { start };
-    }
-    Walked::Found {
+    let next = at + size;
+    let Some(message) = crate::reading::read(&s[at..next]) else {
+        return Some(Err(Broken { start: at }));
+    };
+    Some(Ok(Found {
         message,
-        start,
+        start: at,
         next,
-    }
+    }))
 }
 
 // The same as numbers, for C.
 pub fn numbers_at(s: &[u8], at: usize) -> MessageNumbers
     ensures { result ≡ walk_numbers (walk_at s.now at) at }
 {
-    let w = crate::reader::message_at(s, at);
-    match w {
-        Walked::Found {
+    match crate::reader::message_at(s, at) {
+        Some(Ok(Found {
             message,
             start,
             next,
-        } => crate::kinds::message_numbers(message, start, next),
-        Walked::Broken { start } => crate::kinds::message_numbers(Message::Malformed, start, start),
-        Walked::End => crate::kinds::numbered(Refusal::None, 1, 0, 0, 0, 0, 0, at, at),
+        })) => crate::kinds::message_numbers(Some(message), start, next),
+        Some(Err(Broken { start })) => crate::kinds::message_numbers(None, start, start),
+        None => crate::kinds::place(1, at, at),
     }
 }
