@@ -89,20 +89,11 @@ pub struct Slice {
 pub enum Message {
     Ibf(Slice),
     IbfLast(Slice),
-    Inquiry {
-        salt: u32,
-        count: usize,
-    },
-    Offer {
-        count: usize,
-    },
-    Demand {
-        count: usize,
-    },
+    Inquiry { salt: u32, count: usize },
+    Offer { count: usize },
+    Demand { count: usize },
     // an element's content
-    Element {
-        length: usize,
-    },
+    Element { length: usize },
     Done,
 }
 

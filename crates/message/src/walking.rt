@@ -31,14 +31,14 @@ pub fn walk_at(s: &[u8], at: usize) -> Option<Result<Found, Broken>>
         return Some(Err(Broken { start: at }));
     }
     let next = at + size;
-    let Some(message) = crate::reading::read(&s[at..next]) else {
-        return Some(Err(Broken { start: at }));
-    };
-    Some(Ok(Found {
-        message,
-        start: at,
-        next,
-    }))
+    Some(match crate::reading::read(&s[at..next]) {
+        Some(message) => Ok(Found {
+            message,
+            start: at,
+            next,
+        }),
+        None => Err(Broken { start: at }),
+    })
 }
 
 // The same as numbers, for C.
@@ -46,11 +46,15 @@ pub fn numbers_at(s: &[u8], at: usize) -> MessageNumbers
     ensures { result ≡ walk_numbers (walk_at s.now at) at }
 {
     match crate::reader::message_at(s, at) {
-        Some(Ok(Found {
-            message,
-            start,
-            next,
-        })) => crate::kinds::message_numbers(Some(message), start, next),
+        Some(
+            Ok(
+                Found {
+                    message,
+                    start,
+                    next,
+                },
+            ),
+        ) => crate::kinds::message_numbers(Some(message), start, next),
         Some(Err(Broken { start })) => crate::kinds::message_numbers(None, start, start),
         None => crate::kinds::place(1, at, at),
     }
