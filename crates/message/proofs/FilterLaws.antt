@@ -8,6 +8,7 @@ use native.Mathlib.Omega.{arith}
 use borrow.Author.Tests.{leb-true, ltb-true, le-leb, lt-ltb}
 use lib.Dec.{eqb, ltb, leb}
 use lib.ListN.{length, take, length-map}
+use Rattle.std.specs.Prelude.{Ok, Err}
 use Rattle.bucket.specs.Columns.{Columns}
 use Rattle.bucket.specs.Digits.{Below}
 use Rattle.bucket.specs.Lists.{over, part}
@@ -15,11 +16,10 @@ use Rattle.bucket.specs.Packing.{number}
 use Rattle.bucket.proofs.OverLaws.{part_length}
 use Rattle.bucket.proofs.RoundLaws.{numbers-below}
 use Rattle.bucket.proofs.TestLaws.{and_holds}
-use Rattle.filter.specs.declared.answers.Refusal.TheVariants.{Form, Room, Range}
+use Rattle.filter.specs.declared.answers.Refusal.TheVariants.{Room}
 use Rattle.filter.specs.Calls.{in_range, are_counts, has_room}
 use Rattle.filter.proofs.FilledLaws.{wide_of}
 use Rattle.filter.proofs.PartLaws.{range-sound}
-use Rattle.message.specs.declared.kinds.Wrote.TheVariants.{To, Refused}
 use Rattle.message.specs.Layout.{Good, in_slice}
 use Rattle.message.specs.Writing.{layouts, width_for, slice_at, slices_of, write, wrote, filter_call}
 use Rattle.message.specs.Putting.{filter_bytes, FilterPut}
@@ -31,20 +31,8 @@ use Rattle.message.proofs.WriteLaws.{room_tested, wrote-there}
 -- ---- the answers
 
 module _ (size salt : ℕ) (c : Columns) (at : ℕ) (out : List ℕ) where
-  pub filter_not_counts : are_counts size c.counts ≡ false → write (Refused Form) out ≡ filter_call size salt c at out
-  unfolding filter_call wrote
-  filter_not_counts e = rw e
-
   module _ (counts : are_counts size c.counts ≡ true) where
-    pub filter_out_of_range : in_range size salt ≡ false → write (Refused Range) out ≡ filter_call size salt c at out
-    unfolding filter_call wrote
-    filter_out_of_range e = rw (counts, e)
-
     module _ (range : in_range size salt ≡ true) where
-      pub filter_short_columns : has_room size c ≡ false → write (Refused Room) out ≡ filter_call size salt c at out
-      unfolding filter_call wrote
-      filter_short_columns e = rw (counts, range, e)
-
       module _ (wide : has_room size c ≡ true) {w n : ℕ} (ew : w ≡ width_for size c.counts) (en : n ≡ filter_bytes w size) where
         bytes : length (layouts (slices_of size salt (width_for size c.counts) c)) ≡ n
         bytes =
@@ -52,7 +40,7 @@ module _ (size salt : ℕ) (c : Columns) (at : ℕ) (out : List ℕ) where
             filter_length size salt (width_for size c.counts) c k.idsums k.hashsums k.counts
             ∙ sym (en ∙ ap (λ (v : ℕ). filter_bytes v size) ew)
 
-        pub filter_short_buffer : leb (at + n) (length out) ≡ false → write (Refused Room) out ≡ filter_call size salt c at out
+        pub filter_short_buffer : leb (at + n) (length out) ≡ false → write (Err Room) out ≡ filter_call size salt c at out
         unfolding filter_call wrote
         filter_short_buffer e = rw (counts, range, wide, room_tested (slices_of size salt (width_for size c.counts) c) at out n bytes e)
 
@@ -75,7 +63,7 @@ module _ (size salt : ℕ) (c : Columns) (at : ℕ) (out : List ℕ) where
               }
 
           pub filter_written : {p : ℕ} {o : List ℕ} → p ≡ at + filter_bytes w size → o ≡ over at (layouts (slices_of size salt w c)) out
-              → write (To p) o ≡ filter_call size salt c at out
+              → write (Ok p) o ≡ filter_call size salt c at out
           unfolding filter_call
           filter_written {p} {o} ep eo =
               let cs = slices_of size salt (width_for size c.counts) c in

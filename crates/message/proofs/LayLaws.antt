@@ -14,17 +14,17 @@ use lib.Seq.{take_all, take-suc, take-suc-set}
 use borrow.Rule.Slice.PartMut.{put_mid}
 use Rattle.std.proofs.lemmas.List.{map-id}
 use Rattle.std.specs.Prelude.{MatchOption}
-use Rattle.std.proofs.Common.{Option, Some, None as Nothing}
+use Rattle.std.proofs.Common.{Option, Some, None}
 use Rattle.bucket.specs.Columns.{Columns, columns}
 use Rattle.bucket.specs.Digits.{unpacked}
 use Rattle.bucket.specs.Lists.{over, part}
 use Rattle.bucket.specs.Packing.{takes, unpack_into}
 use Rattle.bucket.proofs.OverLaws.{over-part}
 use Rattle.bucket.proofs.PackedLaws.{unpacked-length}
-use Rattle.bucket.proofs.TestLaws.{and_holds, cond-kept, cond-made}
+use Rattle.bucket.proofs.TestLaws.{and_holds, cond-made}
 use Rattle.filter.specs.declared.answers.Refusal.{Refusal}
-use Rattle.filter.specs.declared.answers.Refusal.TheVariants.{None, Room, Malformed}
-use Rattle.filter.specs.Answers.{refusal_number, first_of}
+use Rattle.filter.specs.declared.answers.Refusal.TheVariants.{Room, Malformed}
+use Rattle.filter.specs.Answers.{number_of, first_of}
 use Rattle.filter.specs.Calls.{has_room}
 use Rattle.filter.proofs.FilledLaws.{wide_of}
 use Rattle.message.specs.declared.kinds.Message.{Message}
@@ -63,16 +63,12 @@ laid-part from n xs us l room e len =
     same : xs ≡ us
     same = sym (map-id xs) ∙ e
 
-lay_either : (t : Bool) (x c : Columns) → cond t (lay None x) (lay Room c) ≡ lay (cond t None Room) (cond (eqb (refusal_number (cond t None Room)) 0) x c)
+lay_either : (t : Bool) (x c : Columns) → cond t (lay None x) (lay (Some Room) c) ≡ lay (cond t None (Some Room)) (cond (eqb (number_of (cond t None (Some Room))) 0) x c)
 lay_either true x c = refl
 lay_either false x c = refl
 
 -- the columns together
 module _ (offset width n : ℕ) (bs : List ℕ) (c : Columns) where
-  pub buckets_refused : has_room (offset + n) c ≡ false → lay Room c ≡ lay_buckets offset width n bs c
-  unfolding lay_buckets
-  buckets_refused h = cond-kept (lay None (buckets_laid offset width n bs c)) (lay Room c) h
-
   pub buckets_laid_lem : {ids hashes : List ℕ} {counts : List ℤ} → has_room (offset + n) c ≡ true → takes width n (16 + 12 * n) (length bs) ≡ true
       → ids ≡ over offset (unpacked 64 n (part 16 (8 * n) bs)) c.idsums
       → hashes ≡ over offset (unpacked 32 n (part (16 + 8 * n) (4 * n) bs)) c.hashsums
@@ -82,7 +78,7 @@ module _ (offset width n : ℕ) (bs : List ℕ) (c : Columns) where
   buckets_laid_lem {counts = counts} h there i s k =
       ap₂ (λ (a b : List ℕ). lay None (columns a b counts)) i s
       ∙ ap (λ (a : List ℤ). lay None (columns (buckets_laid offset width n bs c).idsums (buckets_laid offset width n bs c).hashsums a)) (k ∙ sym made)
-      ∙ cond-made (lay None (buckets_laid offset width n bs c)) (lay Room c) h
+      ∙ cond-made (lay None (buckets_laid offset width n bs c)) (lay (Some Room) c) h
     where
       made : (buckets_laid offset width n bs c).counts ≡ cond (takes width n (16 + 12 * n) (length bs) && leb (offset + n) (length c.counts)) (buckets_laid offset width n bs c).counts c.counts
       made =
@@ -103,14 +99,14 @@ none-asked : (c : Columns) → has_room 0 c ≡ true
 unfolding has_room
 none-asked c = and_holds (le-leb 0 (length c.idsums) (omega arith)) (and_holds (le-leb 0 (length c.hashsums) (omega arith)) (le-leb 0 (length c.counts) (omega arith)))
 
-pub lay_other : (m : Message) (bs : List ℕ) (c : Columns) → slice_end m ≡ 0 → is_slice m ≡ false → lay Malformed c ≡ lay_as m bs c
+pub lay_other : (m : Message) (bs : List ℕ) (c : Columns) → slice_end m ≡ 0 → is_slice m ≡ false → lay (Some Malformed) c ≡ lay_as m bs c
 unfolding lay_as lay_refusal
 lay_other m bs c e h =
-    sym (ap (λ (r : Refusal). lay r (cond (eqb (refusal_number r) 0) (laid (content m bs) c) c)) refused)
+    sym (ap (λ (r : Option Refusal). lay r (cond (eqb (number_of r) 0) (laid (content m bs) c) c)) refused)
   where
-    refused : first_of ((Room, has_room (slice_end m) c) ∷ (Malformed, is_slice m) ∷ []) ≡ Malformed
+    refused : first_of ((Room, has_room (slice_end m) c) ∷ (Malformed, is_slice m) ∷ []) ≡ Some Malformed
     refused =
-        ap₂ (λ (k : ℕ) (b : Bool). first_of ((Room, has_room k c) ∷ (Malformed, b) ∷ [])) e h ∙ ap (λ (t : Bool). cond t Malformed Room) (none-asked c)
+        ap₂ (λ (k : ℕ) (b : Bool). first_of ((Room, has_room k c) ∷ (Malformed, b) ∷ [])) e h ∙ ap (λ (t : Bool). cond t (Some Malformed) (Some Room)) (none-asked c)
 
 -- what is read of the bytes, and the slice that it is, if it is one
 module _ (bs : List ℕ) (c : Columns) where
@@ -118,11 +114,11 @@ module _ (bs : List ℕ) (c : Columns) where
   unfolding lay_call
   known e = ap (λ (x : Option Message). lay_read x bs c) e
 
-  pub lay_none : (x : Option Message) {r : Option Slice} → x ≡ parse bs → MatchOption x (r ≡ Nothing) (λ m. r ≡ slice_as m) → r ≡ Nothing → lay Malformed c ≡ lay_call bs c
+  pub lay_none : (x : Option Message) {r : Option Slice} → x ≡ parse bs → MatchOption x (r ≡ None) (λ m. r ≡ slice_as m) → r ≡ None → lay (Some Malformed) c ≡ lay_call bs c
   unfolding lay_call
-  lay_none Nothing e t n = ap (λ (x : Option Message). lay_read x bs c) e
-  lay_none (Some (Ibf s)) e t n = let q : Some s ≡ Nothing = sym t ∙ n in cc
-  lay_none (Some (IbfLast s)) e t n = let q : Some s ≡ Nothing = sym t ∙ n in cc
+  lay_none None e t n = ap (λ (x : Option Message). lay_read x bs c) e
+  lay_none (Some (Ibf s)) e t n = let q : Some s ≡ None = sym t ∙ n in cc
+  lay_none (Some (IbfLast s)) e t n = let q : Some s ≡ None = sym t ∙ n in cc
   lay_none (Some (Inquiry salt k)) e t n = lay_other (Inquiry salt k) bs c refl refl ∙ known e
   lay_none (Some (Offer k)) e t n = lay_other (Offer k) bs c refl refl ∙ known e
   lay_none (Some (Demand k)) e t n = lay_other (Demand k) bs c refl refl ∙ known e
@@ -137,8 +133,8 @@ module _ (bs : List ℕ) (c : Columns) where
   sliced-lays : {type : ℕ} {s : Slice} → Sliced bs type s → lay_buckets s.offset s.width s.count bs c ≡ lay_call bs c → Lays s
   sliced-lays l e = record { asks = (omega arith, l.few, sliced-takes l); answers = e }
 
-  pub lay_some : (x : Option Message) {r : Option Slice} {s : Slice} → x ≡ parse bs → MatchOption x (r ≡ Nothing) (λ m. r ≡ slice_as m) → r ≡ Some s → Lays s
-  lay_some Nothing {s = s} e t n = let q : Nothing ≡ Some s = sym t ∙ n in cc
+  pub lay_some : (x : Option Message) {r : Option Slice} {s : Slice} → x ≡ parse bs → MatchOption x (r ≡ None) (λ m. r ≡ slice_as m) → r ≡ Some s → Lays s
+  lay_some None {s = s} e t n = let q : None ≡ Some s = sym t ∙ n in cc
   lay_some (Some (Ibf t)) {s = s} e h n =
       let q : Some t ≡ Some s = sym h ∙ n in
       let same : t ≡ s = cc in
@@ -147,8 +143,8 @@ module _ (bs : List ℕ) (c : Columns) where
       let q : Some t ≡ Some s = sym h ∙ n in
       let same : t ≡ s = cc in
       subst Lays same (sliced-lays (shape bs (sym e)) (lay_last t bs c ∙ known e))
-  lay_some (Some (Inquiry salt k)) {s = s} e h n = let q : Nothing ≡ Some s = sym h ∙ n in cc
-  lay_some (Some (Offer k)) {s = s} e h n = let q : Nothing ≡ Some s = sym h ∙ n in cc
-  lay_some (Some (Demand k)) {s = s} e h n = let q : Nothing ≡ Some s = sym h ∙ n in cc
-  lay_some (Some (Element k)) {s = s} e h n = let q : Nothing ≡ Some s = sym h ∙ n in cc
-  lay_some (Some Done) {s = s} e h n = let q : Nothing ≡ Some s = sym h ∙ n in cc
+  lay_some (Some (Inquiry salt k)) {s = s} e h n = let q : None ≡ Some s = sym h ∙ n in cc
+  lay_some (Some (Offer k)) {s = s} e h n = let q : None ≡ Some s = sym h ∙ n in cc
+  lay_some (Some (Demand k)) {s = s} e h n = let q : None ≡ Some s = sym h ∙ n in cc
+  lay_some (Some (Element k)) {s = s} e h n = let q : None ≡ Some s = sym h ∙ n in cc
+  lay_some (Some Done) {s = s} e h n = let q : None ≡ Some s = sym h ∙ n in cc

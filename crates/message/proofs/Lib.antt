@@ -18,6 +18,7 @@ pub mod PutLaws
 pub mod CutLaws
 pub mod HashLaws
 pub mod WriteLaws
+pub mod SizeLaws
 pub mod OfferLaws
 pub mod WidthLaws
 pub mod SliceLaws

@@ -12,7 +12,7 @@ use Rattle.bucket.specs.Columns.{Columns, columns}
 use Rattle.bucket.specs.Lists.{over}
 use Rattle.filter.specs.declared.answers.Refusal.{Refusal}
 use Rattle.filter.specs.declared.answers.Refusal.TheVariants.{Room, Malformed}
-use Rattle.filter.specs.Answers.{refusal_number, first_of}
+use Rattle.filter.specs.Answers.{number_of, first_of}
 use Rattle.filter.specs.Calls.{has_room, Build, built}
 use Rattle.message.specs.declared.kinds.Message.{Message}
 use Rattle.message.specs.declared.kinds.Message.TheVariants.{Ibf, IbfLast, Inquiry, Offer, Demand, Element, Done}
@@ -47,28 +47,28 @@ slice_end (Demand n) = 0
 slice_end (Element n) = 0
 slice_end Done = 0
 
-unfoldable pub lay_refusal : Message → Columns → Refusal
+unfoldable pub lay_refusal : Message → Columns → Option Refusal
 lay_refusal m c = first_of ((Room, has_room (slice_end m) c) ∷ (Malformed, is_slice m) ∷ [])
 
 pub record Lay : Type 0 where
-  pub refusal : Refusal
+  pub refusal : Option Refusal
   pub columns : Columns
 
-abbrev pub lay : Refusal → Columns → Lay
+abbrev pub lay : Option Refusal → Columns → Lay
 lay r c = record { refusal = r; columns = c }
 
 unfoldable pub lay_as : Message → List ℕ → Columns → Lay
 lay_as m bs c =
     let r = lay_refusal m c in
-    lay r (cond (eqb (refusal_number r) 0) (laid (content m bs) c) c)
+    lay r (cond (eqb (number_of r) 0) (laid (content m bs) c) c)
 
 -- bytes that are no message are refused with 4 too
 abbrev pub lay_read : Option Message → List ℕ → Columns → Lay
 lay_read (Some m) bs c = lay_as m bs c
-lay_read None bs c = lay Malformed c
+lay_read None bs c = lay (Some Malformed) c
 
 unfoldable pub lay_call : List ℕ → Columns → Lay
 lay_call bs c = lay_read (parse bs) bs c
 
 abbrev pub lay_numbers : Lay → Build
-lay_numbers l = built (refusal_number l.refusal) l.columns
+lay_numbers l = built (number_of l.refusal) l.columns

@@ -1,14 +1,13 @@
 -- The numbers of document 01 that the definitions of messages hold, once more and by themselves: a wrong number in a definition, which code and
 -- proofs would follow, breaks a line here. Each stands under the paper's words.
 -- Assumes nothing.
-use Rattle.std.specs.Prelude.{◌≡◌, refl, true, false, ◌&&◌, List, [], ◌∷◌, ℕ, ltb, leb, length, replicate, Some, None}
+use Rattle.std.specs.Prelude.{◌≡◌, refl, true, false, ◌&&◌, List, [], ◌∷◌, ℕ, ltb, leb, length, replicate, Some, None, Ok, Err}
 use Rattle.bucket.specs.Columns.{Columns}
 use Rattle.bucket.specs.Crc.{tabulated}
 use Rattle.bucket.specs.Digits.{joined, groups, packed, Below}
 use Rattle.filter.specs.declared.answers.Refusal.TheVariants.{Form, Room, Range, Malformed}
 use Rattle.filter.specs.Table.{hashes_of}
 use Rattle.message.specs.declared.kinds.Message.TheVariants.{Done}
-use Rattle.message.specs.declared.kinds.Wrote.TheVariants.{To, Refused}
 use Rattle.message.specs.Layout.{DEMAND, INQUIRY, OFFER, IBF, ELEMENT, IBF_LAST, DONE, inquiry, offer, demand, element, done, layout, framed, in_slice, slice_type, slice_bytes, slice_good, Good}
 use Rattle.message.specs.Reading.{numbers_of}
 use Rattle.message.specs.Walking.{broken, walk_numbers}
@@ -106,21 +105,21 @@ pub refusals :
     × ((walk_numbers (broken 5) 5).refusal ≡ 4)
     × ((walk_numbers None 5).refusal ≡ 0)
     × ((numbers_of (Some Done) 5 73).refusal ≡ 0)
-    × ((written_of (Refused Malformed)).refusal ≡ 4)
-    × ((written_of (To 9)).refusal ≡ 0)
+    × ((written_of (Err Malformed)).refusal ≡ 4)
+    × ((written_of (Ok 9)).refusal ≡ 0)
 refusals = (refl, refl, refl, refl, refl, refl)
 
 -- the writers at the ends of what they take: salts to 63, whole hashes of 64 bytes, contents of 1 to 65,531 bytes, a checksum of 64 bytes
 pub writers :
-    ((inquiry_call 63 [] 0 []).answer ≡ To 0)
-    × ((inquiry_call 64 [] 0 []).answer ≡ Refused Range)
-    × ((hashes_call offers_of (replicate 64 0) 0 (replicate 68 0)).answer ≡ To 68)
-    × ((hashes_call demands_of (replicate 63 0) 0 (replicate 68 0)).answer ≡ Refused Form)
-    × ((hashes_call demands_of (replicate 64 0) 0 (replicate 67 0)).answer ≡ Refused Room)
-    × ((element_call [] 0 (replicate 4 0)).answer ≡ Refused Malformed)
-    × ((element_call (replicate 65531 0) 0 (replicate 65535 0)).answer ≡ To 65535)
-    × ((element_call (replicate 65532 0) 0 (replicate 65536 0)).answer ≡ Refused Malformed)
-    × ((done_call (replicate 64 0) 0 (replicate 68 0)).answer ≡ To 68)
-    × ((done_call (replicate 63 0) 0 (replicate 68 0)).answer ≡ Refused Room)
+    ((inquiry_call 63 [] 0 []).answer ≡ Ok 0)
+    × ((inquiry_call 64 [] 0 []).answer ≡ Err Range)
+    × ((hashes_call offers_of (replicate 64 0) 0 (replicate 68 0)).answer ≡ Ok 68)
+    × ((hashes_call demands_of (replicate 63 0) 0 (replicate 68 0)).answer ≡ Err Form)
+    × ((hashes_call demands_of (replicate 64 0) 0 (replicate 67 0)).answer ≡ Err Room)
+    × ((element_call [] 0 (replicate 4 0)).answer ≡ Err Malformed)
+    × ((element_call (replicate 65531 0) 0 (replicate 65535 0)).answer ≡ Ok 65535)
+    × ((element_call (replicate 65532 0) 0 (replicate 65536 0)).answer ≡ Err Malformed)
+    × ((done_call (replicate 64 0) 0 (replicate 68 0)).answer ≡ Ok 68)
+    × ((done_call (replicate 63 0) 0 (replicate 68 0)).answer ≡ Err Room)
 unfolding inquiry_call hashes_call element_call done_call wrote have_room layouts layout framed packed groups joined pieces_of hashes_of tabulated
 writers = (refl, refl, refl, refl, refl, refl, refl, refl, refl, refl)

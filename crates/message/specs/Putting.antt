@@ -10,12 +10,12 @@
 --   lay_buckets ..           the buckets that stand in a message's bytes laid into columns, as refusal 2 allows
 --
 -- Assumes nothing.
-use Rattle.std.specs.Prelude.{◌≡◌, true, cond, List, [], ◌∷◌, ◌++◌, map, ℕ, ◌+◌, ◌*◌, ◌≤◌, leb, ltb, pos, length, take}
+use Rattle.std.specs.Prelude.{◌≡◌, true, cond, None, Some, List, [], ◌∷◌, ◌++◌, map, ℕ, ◌+◌, ◌*◌, ◌≤◌, leb, ltb, pos, length, take}
 use Rattle.bucket.specs.Columns.{Columns, columns}
 use Rattle.bucket.specs.Digits.{packed, unpacked}
 use Rattle.bucket.specs.Lists.{over, part}
 use Rattle.bucket.specs.Packing.{counters_at, fits_in}
-use Rattle.filter.specs.declared.answers.Refusal.TheVariants.{None, Room}
+use Rattle.filter.specs.declared.answers.Refusal.TheVariants.{Room}
 use Rattle.filter.specs.Calls.{has_room}
 use Rattle.message.specs.declared.kinds.Slice.{Slice}
 use Rattle.message.specs.Laying.{Lay, lay}
@@ -78,4 +78,4 @@ buckets_laid offset width n bs c =
 
 unfoldable pub lay_buckets : ℕ → ℕ → ℕ → List ℕ → Columns → Lay
 lay_buckets offset width n bs c =
-    cond (has_room (offset + n) c) (lay None (buckets_laid offset width n bs c)) (lay Room c)
+    cond (has_room (offset + n) c) (lay None (buckets_laid offset width n bs c)) (lay (Some Room) c)

@@ -13,19 +13,17 @@
 -- Laws (proofs/RoundLaws): a writer's answer is read back, message by message; (proofs/PieceLaws): the pieces are the list, and each is in range;
 -- (proofs/WidthLaws): width-smallest.
 -- Assumes nothing.
-use Rattle.std.specs.Prelude.{Bool, ◌&&◌, cond, List, [], ◌∷◌, ◌++◌, map, ℕ, zero, suc, ◌+◌, ◌-◌, ◌/◌, ◌%◌, max, eqb, ltb, leb, ℤ, length, take, drop}
+use Rattle.std.specs.Prelude.{Bool, ◌&&◌, cond, Option, None, Some, Result, Ok, Err, List, [], ◌∷◌, ◌++◌, map, ℕ, zero, suc, ◌+◌, ◌-◌, ◌/◌, ◌%◌, max, eqb, ltb, leb, ℤ, length, take, drop}
 use Rattle.bucket.specs.Columns.{Columns}
 use Rattle.bucket.specs.Counts.{width_of}
 use Rattle.bucket.specs.Digits.{joined}
 use Rattle.bucket.specs.Lists.{over, part}
 use Rattle.bucket.specs.Packing.{numbers}
 use Rattle.filter.specs.declared.answers.Refusal.{Refusal}
-use Rattle.filter.specs.declared.answers.Refusal.TheVariants.{None, Form, Room, Range, Malformed}
-use Rattle.filter.specs.Answers.{refusal_number, first_of}
+use Rattle.filter.specs.declared.answers.Refusal.TheVariants.{Form, Room, Range, Malformed}
+use Rattle.filter.specs.Answers.{refusal_number, number_of, first_of}
 use Rattle.filter.specs.Calls.{in_range, are_counts, has_room}
 use Rattle.filter.specs.Table.{hashes_of}
-use Rattle.message.specs.declared.kinds.Wrote.{Wrote}
-use Rattle.message.specs.declared.kinds.Wrote.TheVariants.{To, Refused}
 use Rattle.message.specs.declared.kinds.Written.{Written}
 use Rattle.message.specs.Layout.{Content, slice, inquiry, offer, demand, element, done, layout, in_slice}
 
@@ -79,15 +77,15 @@ unfoldable pub have_room : List Content → ℕ → List ℕ → Bool
 have_room cs at out = leb (at + length (layouts cs)) (length out)
 
 pub record Write : Type 0 where
-  pub answer : Wrote
+  pub answer : Result ℕ Refusal
   pub out : List ℕ
 
-abbrev pub write : Wrote → List ℕ → Write
+abbrev pub write : Result ℕ Refusal → List ℕ → Write
 write a out = record { answer = a; out = out }
 
-unfoldable pub wrote : Refusal → List Content → ℕ → List ℕ → Write
-wrote r cs at out =
-    cond (eqb (refusal_number r) 0) (write (To (at + length (layouts cs))) (over at (layouts cs) out)) (write (Refused r) out)
+unfoldable pub wrote : Option Refusal → List Content → ℕ → List ℕ → Write
+wrote None cs at out = write (Ok (at + length (layouts cs))) (over at (layouts cs) out)
+wrote (Some r) cs at out = write (Err r) out
 
 -- 3 for the salt, 2
 unfoldable pub inquiry_call : ℕ → List ℕ → ℕ → List ℕ → Write
@@ -122,9 +120,9 @@ filter_call size salt c at out =
     cs at out
 
 -- an answer as numbers: the refusal, and the next position, 0 where it is refused
-abbrev pub written_of : Wrote → Written
-written_of (To next) = record { refusal = refusal_number None; next = next }
-written_of (Refused r) = record { refusal = refusal_number r; next = 0 }
+abbrev pub written_of : Result ℕ Refusal → Written
+written_of (Ok next) = record { refusal = number_of None; next = next }
+written_of (Err r) = record { refusal = refusal_number r; next = 0 }
 
 pub record Left : Type 0 where
   pub answer : Written

@@ -7,13 +7,13 @@ ghost use Rattle.filter.specs.Calls.{all_counts};
 ghost use Rattle.message.specs.Writing.{write, filter_call, largest};
 ghost use Rattle.message.specs.Putting.{filter_bytes};
 
-use crate::kinds::Wrote;
 use crate::slices::{SECOND, in_slice, slice_bytes};
 use bucket::packing::number_of;
 use filter::answers::Refusal;
 
 // The filter in the first size places of three columns, from a position of a lent buffer, at the smallest width for all of it; answers the next
 // position. Refused: a COUNT out of range, then a size or salt out of range, then a column or the buffer too short; then nothing is changed.
+#[tactic(auto, unfolding(crate::specs::Writing::filter_call, crate::specs::Writing::wrote))]
 pub fn filter(
     ids: &[u64],
     hashes: &[u32],
@@ -22,27 +22,22 @@ pub fn filter(
     salt: u32,
     out: &mut [u8],
     at: usize,
-) -> Wrote
+) -> Result<usize, Refusal>
     ensures { write result out.new
         ≡ filter_call size salt (columns ids.now hashes.now counts.now) at out.old }
 {
     if !filter::forms::are_counts(counts, size) {
-        return Wrote::Refused { why: Refusal::Form };
+        return Err(Refusal::Form);
     }
     if !filter::forms::in_range(size, salt) {
-        return Wrote::Refused {
-            why: Refusal::Range,
-        };
+        return Err(Refusal::Range);
     }
     if !filter::forms::has_room(ids, hashes, counts, size) {
-        return Wrote::Refused { why: Refusal::Room };
+        return Err(Refusal::Room);
     }
     let width = width_for(&counts[..size as usize]);
-    if !crate::writing::has_room(at, filter_bytes(width, size), out.len()) {
-        return Wrote::Refused { why: Refusal::Room };
-    }
-    let next = crate::frames::put_filter(ids, hashes, counts, size, salt, width, out, at);
-    Wrote::To { next }
+    crate::writing::room_for(at, filter_bytes(width, size), out.len())?;
+    Ok(crate::frames::put_filter(ids, hashes, counts, size, salt, width, out, at))
 }
 
 // The smallest width that holds the counts, at least 1.

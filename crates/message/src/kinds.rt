@@ -123,13 +123,6 @@ impl Message {
     }
 }
 
-// What a writer answers: the position behind what it wrote, or why it wrote nothing.
-#[derive(Drop)]
-pub enum Wrote {
-    To { next: usize },
-    Refused { why: Refusal },
-}
-
 // A message as numbers: why it is refused, what it says, and its place in the buffer.
 #[repr(C)]
 #[derive(Drop)]
@@ -145,7 +138,7 @@ pub struct MessageNumbers {
     pub next: usize,
 }
 
-// A writer's answer as numbers.
+// A writer's answer as numbers: why it wrote nothing, and the position behind what it wrote.
 #[repr(C)]
 #[derive(Drop)]
 pub struct Written {
@@ -159,7 +152,7 @@ pub fn message_numbers(m: Option<Message>, start: usize, next: usize) -> Message
 {
     let Some(m) = m else {
         return MessageNumbers {
-            refusal: filter::answers::refusal_number(Refusal::Malformed),
+            refusal: u32::from(Refusal::Malformed),
             ..place(0, start, start)
         };
     };
@@ -204,17 +197,16 @@ pub(crate) fn place(kind: u32, start: usize, next: usize) -> MessageNumbers
     }
 }
 
-pub fn write_numbers(w: Wrote) -> Written
-    ensures { result ≡ written_of w }
-{
-    match w {
-        Wrote::To { next } => Written {
-            refusal: filter::answers::refusal_number(Refusal::None),
-            next: next,
-        },
-        Wrote::Refused { why } => Written {
-            refusal: filter::answers::refusal_number(why),
-            next: 0,
-        },
+impl From<Result<usize, Refusal>> for Written {
+    ghost from_gives = { λ wrote numbers. numbers ≡ written_of wrote };
+
+    fn from(wrote: Result<usize, Refusal>) -> Written {
+        match wrote {
+            Ok(next) => Written { refusal: 0, next },
+            Err(why) => Written {
+                refusal: u32::from(why),
+                next: 0,
+            },
+        }
     }
 }

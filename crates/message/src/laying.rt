@@ -1,5 +1,6 @@
 // A slice of a filter laid into three lent columns.
 ghost use Rattle.std.specs.Prelude.{◌≡◌, true, map, ◌+◌, ◌*◌, ◌≤◌, length};
+ghost use Rattle.std.specs.Result.{result_err};
 ghost use Rattle.bucket.specs.Columns.{columns};
 ghost use Rattle.bucket.specs.Digits.{unpacked};
 ghost use Rattle.bucket.specs.Packing.{takes};
@@ -13,12 +14,12 @@ use filter::answers::Refusal;
 // Lays the slice of an IBF or IBF LAST message into the columns, from its offset on. Refused: a column too short for it, or no such message;
 // then nothing is changed.
 #[tactic(auto, unfolding(crate::specs::Laying::lay_call))]
-pub fn lay(s: &[u8], ids: &mut [u64], hashes: &mut [u32], counts: &mut [i64]) -> Refusal
-    ensures { lay result (columns ids.new hashes.new counts.new)
+pub fn lay(s: &[u8], ids: &mut [u64], hashes: &mut [u32], counts: &mut [i64]) -> Result<(), Refusal>
+    ensures { lay (result_err result) (columns ids.new hashes.new counts.new)
         ≡ lay_call s.now (columns ids.old hashes.old counts.old) }
 {
     let Some(slice) = crate::reading::read(s).and_then(Message::slice) else {
-        return Refusal::Malformed;
+        return Err(Refusal::Malformed);
     };
     lay_slice(
         s,
@@ -32,6 +33,7 @@ pub fn lay(s: &[u8], ids: &mut [u64], hashes: &mut [u32], counts: &mut [i64]) ->
 }
 
 // The n buckets that stand in a message's bytes, laid from an offset on.
+#[tactic(auto, unfolding(crate::specs::Putting::lay_buckets))]
 fn lay_slice(
     s: &[u8],
     offset: u32,
@@ -40,20 +42,20 @@ fn lay_slice(
     ids: &mut [u64],
     hashes: &mut [u32],
     counts: &mut [i64],
-) -> Refusal
+) -> Result<(), Refusal>
     requires { (offset ≤ 4096) × (n ≤ 2520) × (takes width n (16 + 12 * n) (length s.now) ≡ true) }
-    ensures { lay result (columns ids.new hashes.new counts.new)
+    ensures { lay (result_err result) (columns ids.new hashes.new counts.new)
         ≡ lay_buckets offset width n s.now (columns ids.old hashes.old counts.old) }
 {
     if !filter::forms::has_room(ids, hashes, counts, offset + n as u32) {
-        return Refusal::Room;
+        return Err(Refusal::Room);
     }
     let from = offset as usize;
     let to = from + n;
     lay_numbers(&s[16..16 + 8 * n], &mut ids[from..to]);
     lay_numbers(&s[16 + 8 * n..16 + 12 * n], &mut hashes[from..to]);
     bucket::packing::unpack(s, 16 + 12 * n, n, width, counts, from);
-    Refusal::None
+    Ok(())
 }
 
 // The numbers that stand in the bytes, one behind the other.

@@ -1,16 +1,18 @@
 -- `filters::filter` meets its contract: each early answer is the definition's at the test that failed, and behind them the slices are put.
 -- Assumes nothing.
-use mathlib.Core.Path.{◌≡◌}
+use mathlib.Core.Path.{◌≡◌, ◌∙◌}
+use lib.ListN.{length}
 use mathlib.Core.Bool.{true}
 use Rattle.bucket.specs.Columns.{columns}
-use Rattle.bucket.proofs.TestLaws.{test_refused, test_granted}
+use Rattle.bucket.proofs.TestLaws.{test_granted}
 use Rattle.filter.specs.Calls.{in_range, are_counts, has_room}
 use Rattle.filter.proofs.FilledLaws.{wide_of}
 use Rattle.filter.proofs.PartLaws.{range-sound}
-use Rattle.message.specs.Writing.{width_for}
-use Rattle.message.proofs.FilterLaws.{filter_not_counts, filter_out_of_range, filter_short_columns, filter_short_buffer, filter_put, filter_written}
-use Rattle.std.proofs.Common.{ap, sym}
+use Rattle.message.specs.Writing.{write, width_for}
 use Rattle.std.proofs.Math.Seq.{length-take-le}
+use Rattle.message.proofs.FilterLaws.{filter_short_buffer, filter_put, filter_written}
+use Rattle.message.proofs.WriteLaws.{handed-on, room-short, room-there}
+use Rattle.std.proofs.Common.{Err, ap, sym}
 use mathlib.Core.Bool.{not}
 use Rattle.message.proofs.filters.filter.Goals as goal
 use Rattle.message.proofs.filters.filter.Goals.{Else-not-are_counts, Else-not-has_room, Else-not-in_range}
@@ -25,21 +27,6 @@ ranged c = test_granted c.in_range.ensures (ap not c.if-not-in_range.false)
 roomy : (c : Else-not-has_room) → let a = c.args in has_room a.size (columns a.ids.now a.hashes.now a.counts.now) ≡ true
 roomy c = test_granted c.has_room.ensures (ap not c.if-not-has_room.false)
 
-pub returns-then-not-are_counts : goal.returns-then-not-are_counts
-returns-then-not-are_counts c = let a = c.args in
-    let cols = columns a.ids.now a.hashes.now a.counts.now in
-    filter_not_counts a.size a.salt cols a.at a.out.now (test_refused c.are_counts.ensures (ap not c.if-not-are_counts.true))
-
-pub returns-then-not-in_range : goal.returns-then-not-in_range
-returns-then-not-in_range c = let a = c.args in
-    let cols = columns a.ids.now a.hashes.now a.counts.now in
-    filter_out_of_range a.size a.salt cols a.at a.out.now (counted (goal.at.returns-then-not-in_range c).Else-not-are_counts) (test_refused c.in_range.ensures (ap not c.if-not-in_range.true))
-
-pub returns-then-not-has_room : goal.returns-then-not-has_room
-returns-then-not-has_room c = let a = c.args in
-    let cols = columns a.ids.now a.hashes.now a.counts.now in
-    filter_short_columns a.size a.salt cols a.at a.out.now (counted (goal.at.returns-then-not-has_room c).Else-not-are_counts) (ranged (goal.at.returns-then-not-has_room c).Else-not-in_range) (test_refused c.has_room.ensures (ap not c.if-not-has_room.true))
-
 pub slice_bounds-width_for-end : goal.slice_bounds-width_for-end
 slice_bounds-width_for-end c = let wide = wide_of _ _ (roomy (goal.at.slice_bounds-width_for-end c).Else-not-has_room) in
     sym (length-take-le c.args.size c.args.counts.now wide.counts)
@@ -50,24 +37,31 @@ width_for-width-requires c = counted (goal.at.width_for-width-requires c).Else-n
 pub filter_bytes-requires : goal.filter_bytes-requires
 filter_bytes-requires c = (range-sound _ _ (ranged (goal.at.filter_bytes-requires c).Else-not-in_range)).most
 
-pub returns-then-not-has_room-2 : goal.returns-then-not-has_room-2
+pub returns-in_err-room_for : goal.returns-in_err-room_for
 unfolding width_for
-returns-then-not-has_room-2 c = let a = c.args in
+returns-in_err-room_for c = let a = c.args in
     let cols = columns a.ids.now a.hashes.now a.counts.now in
-    filter_short_buffer a.size a.salt cols a.at a.out.now (counted (goal.at.returns-then-not-has_room-2 c).Else-not-are_counts) (ranged (goal.at.returns-then-not-has_room-2 c).Else-not-in_range) (roomy (goal.at.returns-then-not-has_room-2 c).Else-not-has_room)
-    c.width_for-width.ensures c.filter_bytes.ensures (test_refused c.has_room-2.ensures (ap not c.if-not-has_room-2.true))
+    let p = goal.at.returns-in_err-room_for c in
+    let short = room-short a.at c.filter_bytes.result (length a.out.now) c.room_for.ensures c.in_err-room_for.was in
+    ap (λ r. write r a.out.now) (handed-on c.from_residual.ensures ∙ ap Err short.1)
+    ∙ filter_short_buffer a.size a.salt cols a.at a.out.now (counted p.Else-not-are_counts) (ranged p.Else-not-in_range) (roomy p.Else-not-has_room)
+    c.width_for-width.ensures c.filter_bytes.ensures short.0
 
-pub put_filter-next-requires : goal.put_filter-next-requires
+pub put_filter-requires : goal.put_filter-requires
 unfolding width_for
-put_filter-next-requires c = let a = c.args in
+put_filter-requires c = let a = c.args in
     let cols = columns a.ids.now a.hashes.now a.counts.now in
-    filter_put a.size a.salt cols a.at a.out.now (counted (goal.at.put_filter-next-requires c).Else-not-are_counts) (ranged (goal.at.put_filter-next-requires c).Else-not-in_range) (roomy (goal.at.put_filter-next-requires c).Else-not-has_room)
-    c.width_for-width.ensures c.filter_bytes.ensures (test_granted c.has_room-2.ensures (ap not c.if-not-has_room-2.false))
+    let p = goal.at.put_filter-requires c in
+    let there = room-there a.at c.filter_bytes.result (length a.out.now) c.room_for.ensures c.in_ok-room_for.was in
+    filter_put a.size a.salt cols a.at a.out.now (counted p.Else-not-are_counts) (ranged p.Else-not-in_range) (roomy p.Else-not-has_room)
+    c.width_for-width.ensures c.filter_bytes.ensures there.0
 
 pub returns : goal.returns
 unfolding width_for
 returns c = let a = c.args in
     let cols = columns a.ids.now a.hashes.now a.counts.now in
-    let put = c.put_filter-next in
-    filter_written a.size a.salt cols a.at a.out.now (counted (goal.at.returns c).Else-not-are_counts) (ranged (goal.at.returns c).Else-not-in_range) (roomy (goal.at.returns c).Else-not-has_room)
-    c.width_for-width.ensures c.filter_bytes.ensures (test_granted c.has_room-2.ensures (ap not c.if-not-has_room-2.false)) put.ensures.0 put.ensures.1
+    let p = goal.at.returns c in
+    let put = c.put_filter.ensures in
+    let there = room-there a.at c.filter_bytes.result (length a.out.now) c.room_for.ensures c.in_ok-room_for.was in
+    filter_written a.size a.salt cols a.at a.out.now (counted p.Else-not-are_counts) (ranged p.Else-not-in_range) (roomy p.Else-not-has_room)
+    c.width_for-width.ensures c.filter_bytes.ensures there.0 put.0 put.1

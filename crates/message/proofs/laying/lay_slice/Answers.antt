@@ -5,10 +5,10 @@ use native.Mathlib.Omega.{arith}
 use Rattle.bucket.specs.Columns.{columns}
 use Rattle.bucket.proofs.OverLaws.{part_length}
 use Rattle.bucket.proofs.PackedLaws.{unpacked-length}
-use Rattle.bucket.proofs.TestLaws.{test_refused, test_granted}
+use Rattle.bucket.proofs.TestLaws.{test_granted}
 use Rattle.filter.specs.Steps.{Wide}
 use Rattle.filter.proofs.FilledLaws.{wide_of}
-use Rattle.message.proofs.LayLaws.{laid-part, buckets_refused, buckets_laid_lem}
+use Rattle.message.proofs.LayLaws.{laid-part, buckets_laid_lem}
 use Rattle.std.proofs.Common.{◌≡◌, ap}
 use mathlib.Core.Bool.{not}
 use Rattle.message.proofs.laying.lay_slice.Goals as goal
@@ -18,10 +18,6 @@ use Rattle.message.proofs.laying.lay_slice.Goals.{Else-not-has_room}
 wide : (c : Else-not-has_room) → Wide (c.args.offset + c.args.n)
     (columns c.args.ids.now c.args.hashes.now c.args.counts.now)
 wide c = wide_of _ _ (test_granted c.has_room.ensures (ap not c.if-not-has_room.false))
-
-pub returns-then-not-has_room : goal.returns-then-not-has_room
-returns-then-not-has_room c = let a = c.args in
-    buckets_refused a.offset a.width a.n a.s.now (columns a.ids.now a.hashes.now a.counts.now) (test_refused c.has_room.ensures (ap not c.if-not-has_room.true))
 
 pub slice_bounds-lay_numbers-end-2 : goal.slice_bounds-lay_numbers-end-2
 slice_bounds-lay_numbers-end-2 c = omega (arith, (wide (goal.at.slice_bounds-lay_numbers-end-2 c).Else-not-has_room).idsums)
