@@ -1,5 +1,6 @@
 -- The loop of a peeling: what holds before each turn, and each way through it. Assumes nothing.
 use mathlib.Core.Path.{◌≡◌, refl, sym, ap, ap₂, subst, ◌∙◌, fun_ext}
+use mathlib.Core.Logic.{◌⊎◌, ⊎_elim}
 use mathlib.Core.Bool.{Bool, true, false}
 use mathlib.Core.List.{List, [], ◌∷◌, ◌++◌, reverse, reverse-cons}
 use Prim.Native.Nat.{ℕ, suc, ◌+◌, ◌-◌, ◌^◌, ◌≤◌, ◌<◌, zero-le}
@@ -266,13 +267,13 @@ module _ {n : Input} {g : State} (p : Peeling n g) where
         ∙ ap take item_shown
 
     -- its ID was listed before
-    pub peeling_repeated : was_listed ≡ true → Ends n g None (g.looked + (f.b + 1))
+    peeling_repeated : was_listed ≡ true → Ends n g None (g.looked + (f.b + 1))
     peeling_repeated e =
         ends None (f.b + 1) (λ m q. cc) (least-reach f.lowest)
         (inv-again (rule_of n) (view n.columns) p.acc (view g.columns) g.looked (n.size - length p.acc) p.inv (repeats e))
 
     -- as many peels were made as there are buckets
-    pub peeling_full : length g.noted ≡ n.size → Ends n g None (g.looked + (f.b + 1))
+    peeling_full : length g.noted ≡ n.size → Ends n g None (g.looked + (f.b + 1))
     peeling_full e = ends None (f.b + 1) (λ m q. cc) (least-reach f.lowest) (either was_listed refl)
       where
         last : Inv (rule_of n) (view n.columns) 0 p.acc (view g.columns) g.looked
@@ -281,6 +282,9 @@ module _ {n : Input} {g : State} (p : Peeling n g) where
         either : (t : Bool) → was_listed ≡ t → Ended (rule_of n) (view n.columns) false p.acc (view g.columns) (g.looked + one)
         either true q = inv-again (rule_of n) (view n.columns) p.acc (view g.columns) g.looked 0 last (repeats q)
         either false q = inv_full (rule_of n) (view n.columns) p.acc (view g.columns) g.looked (sided f.z f.id) last (takes q)
+
+    pub peeling_stopped : (length g.noted ≡ n.size) ⊎ (was_listed ≡ true) → Ends n g None (g.looked + (f.b + 1))
+    peeling_stopped = ⊎_elim peeling_full peeling_repeated
 
     -- it is peeled
     pub peeling_next : {g' : State} → (length g.noted ≡ n.size → ⊥) → g'.looked ≡ g.looked + (f.b + 1)

@@ -1,4 +1,6 @@
 use mathlib.Core.Path.{◌≡◌, refl, sym, ◌∙◌}
+use mathlib.Core.Logic.{◌⊎◌, inl, inr}
+use mathlib.Core.Bool.{true}
 use mathlib.Core.List.{[], ◌∷◌}
 use Prim.Native.Nat.{◌+◌, ◌<◌}
 use native.Mathlib.Omega.{arith}
@@ -10,13 +12,11 @@ use mir.ValLaws.{to_z-of_z}
 use borrow.Author.Tests.{not-true, not-false}
 use Rattle.bucket.specs.Columns.{columns}
 use Rattle.bucket.specs.Lists.{elem}
-use Rattle.std.specs.Prelude.{None}
 use Rattle.std.proofs.Common.{rules}
 use Rattle.filter.proofs.SpreadLaws.{sound_any}
 use Rattle.filter.proofs.StepLaws.{
   Input,
   State,
-  Ends,
   Found,
   peeling_start,
   peeling_wide,
@@ -30,8 +30,7 @@ use Rattle.filter.proofs.StepLaws.{
   least_in,
   found-one,
   found_abs,
-  peeling_repeated,
-  peeling_full,
+  peeling_stopped,
   peeling_next,
   bucket-read,
 }
@@ -105,19 +104,19 @@ pub slice_copy_out-s : goal.slice_copy_out-s
 slice_copy_out-s c = omega (arith, inside (goal.at.slice_copy_out-s c).In-Some, (peeling_wide c.loop-b.invariant).counts)
 
 -- one peel more than there are buckets, or a repeated ID
-stopped : (c : Joined-then-len-n) → Ends (input (goal.at.returns-then-len-n-clause-peels c).After-unsalt-id) (state (goal.at.returns-then-len-n-clause-peels c).After-unsalt-id) None (c.loop-b.looked + (c.in-Some.b + 1))
-stopped c = let f = found (goal.at.returns-then-len-n-clause-peels c).After-unsalt-id in
-    elim c.then-len-n.branch [
-      | then-len-n-via-then-len-n w ↦ peeling_full c.loop-b.invariant f (sym c.len.ensures ∙ w.if-len-n.true)
-      | then-len-n-via-else-len-n+then-not-enroll w ↦ peeling_repeated c.loop-b.invariant f
-          (not-false (elem c.unsalt-id.result c.loop-b.trees) (sym w.if-not-enroll.ensures.fresh))
-    ]
+why : (c : Joined-then-len-n) → (length c.loop-b.trees ≡ c.args.size) ⊎ (elem c.unsalt-id.result c.loop-b.trees ≡ true)
+why c = elim c.then-len-n.branch [
+  | then-len-n-via-then-len-n w ↦ inl (sym c.len.ensures ∙ w.if-len-n.true)
+  | then-len-n-via-else-len-n+then-not-enroll w ↦ inr (not-false (elem c.unsalt-id.result c.loop-b.trees) (sym w.if-not-enroll.ensures.fresh))
+]
 
 pub returns-then-len-n-clause-peels : goal.returns-then-len-n-clause-peels
-returns-then-len-n-clause-peels c = (stopped c).peels
+returns-then-len-n-clause-peels c = let at = goal.at.returns-then-len-n-clause-peels c in
+    (peeling_stopped c.loop-b.invariant (found at.After-unsalt-id) (why at.Joined-then-len-n)).peels
 
 pub returns-then-len-n-clause-looked : goal.returns-then-len-n-clause-looked
-returns-then-len-n-clause-looked c = (stopped c).looked
+returns-then-len-n-clause-looked c = let at = goal.at.returns-then-len-n-clause-looked c in
+    (peeling_stopped c.loop-b.invariant (found at.After-unsalt-id) (why at.Joined-then-len-n)).looked
 
 -- there is room for one more
 more : (c : After-len) → (c.len.result ≡ c.args.size → ⊥) → length c.loop-b.trees < c.args.size
