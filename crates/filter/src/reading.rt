@@ -10,6 +10,7 @@ ghost use Rattle.filter.specs.Steps.{Ready, Received, Wide, Peels};
 
 use crate::answers::{Reading, Refusal, Verdict};
 use crate::peeling::Peeled;
+use crate::table::Table;
 
 // Reads the difference of our table and a received filter, at a size and a salt, into two lists: IDs that are only ours, and only theirs.
 // Refused: a bad table or a COUNT outside 0 to 2^32 − 1, then a size or salt out of range, then a column or list shorter than size; then
@@ -82,7 +83,7 @@ fn read_difference(
     let b = p.theirs;
     let l = p.looked;
     let v = crate::judging::judge(
-        table,
+        Table { bytes: table },
         ids,
         hashes,
         counts,

@@ -18,7 +18,7 @@ pub slice_bounds-judge-end-4 : goal.slice_bounds-judge-end-4
 slice_bounds-judge-end-4 c = sym (length-take-le _ _ (judge_ready c.requires c.peel_difference-p.ensures.0).3)
 
 pub judge-v-requires : goal.judge-v-requires
-judge-v-requires c = let r = judge_ready c.requires c.peel_difference-p.ensures.0 in (r.0, r.1)
+judge-v-requires c = (judge_ready c.requires c.peel_difference-p.ensures.0).1
 
 pub clear_all-requires : goal.clear_all-requires
 clear_all-requires c = clear-again c.requires c.peel_difference-p.ensures.0
