@@ -44,21 +44,21 @@ zero-columns (suc n) is hs cs w =
     ∙ ap₂ (λ (u v : Bool). (eqb (get_or is n 0) 0 && (eqb (get_or hs n 0) 0 && u)) && v) (zero-count (get_or cs n (pos 0)))
     (zero-columns n is hs cs (wide-less n (suc n) (columns is hs cs) (omega arith) w)))
 
--- a test of each ID, where the test says whether the table has it
-module _ (t : List ℕ) (p : ℕ → Bool) (is : (a : ℕ) → p a ≡ elem a t) where
-  pub every-held : (l : List ℕ) → list_all p l ≡ every true t l
-  unfolding every
-  every-held [] = refl
-  every-held (a ∷ l) = ap₂ ◌&&◌ (is a) (every-held l)
+-- each ID of a list is there, or none is
+pub every-held : (t l : List ℕ) → list_all (λ a. elem a t) l ≡ every true t l
+unfolding every
+every-held t [] = refl
+every-held t (a ∷ l) = ap (λ (u : Bool). elem a t && u) (every-held t l)
 
-  pub every_missing : (l : List ℕ) → not (list_any p l) ≡ every false t l
-  unfolding every
-  every_missing [] = refl
-  every_missing (a ∷ l) = neither (p a) (list_any p l) ∙ ap₂ (λ (u v : Bool). not u && v) (is a) (every_missing l)
-    where
-      neither : (u v : Bool) → not (u || v) ≡ not u && not v
-      neither true v = refl
-      neither false v = refl
+pub every_missing : (t l : List ℕ) → not (list_any (λ a. elem a t) l) ≡ every false t l
+unfolding every
+every_missing t [] = refl
+every_missing t (a ∷ l) =
+    neither (elem a t) (list_any (λ x. elem x t) l) ∙ ap (λ (u : Bool). not (elem a t) && u) (every_missing t l)
+  where
+    neither : (u v : Bool) → not (u || v) ≡ not u && not v
+    neither true v = refl
+    neither false v = refl
 
 -- the order of a list does not matter to it
 every_append : (want : Bool) (t a b : List ℕ) → every want t (a ++ b) ≡ every want t a && every want t b

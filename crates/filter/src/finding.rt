@@ -1,16 +1,17 @@
 // Finding many IDs in one table. How an ID begins gives a guess where to look; what is found there is checked, so any guess would do.
-ghost use Rattle.std.specs.Prelude.{◌≡◌, true, ◌≤◌, ◌<◌};
-ghost use Rattle.filter.specs.Table.{first_eight, ids_of, is_table, holds};
+ghost use Rattle.std.specs.Prelude.{◌≡◌, ◌≤◌, ◌<◌};
+ghost use Rattle.bucket.specs.Lists.{elem};
+ghost use Rattle.filter.specs.Table.{first_eight, ids_of};
+
+use crate::table::Table;
 
 // For each way that an ID can begin, where to look from.
 pub(crate) type Hints = [u16; 4096];
 
 // Of each beginning the last place in the table whose ID begins with less, or 0. The hints come as zeros.
-pub(crate) fn fill(table: &[u8], hints: &mut Hints)
-    requires { is_table first_eight table.now ≡ true }
-{
-    for e in 0..crate::table::count(table) {
-        hints[beginning(crate::table::element_id(table, e))] = e as u16;
+pub(crate) fn fill(table: Table<'_>, hints: &mut Hints) {
+    for e in 0..table.count() {
+        hints[beginning(table.element_id(e))] = e as u16;
     }
     move_up(hints);
 }
@@ -34,30 +35,29 @@ fn beginning(id: u64) -> usize
 }
 
 // Whether an ID is in the table. Two neighbours that it lies between decide; where no hint leads to them, a binary search does.
-pub(crate) fn is_held(table: &[u8], hints: Option<&Hints>, id: u64) -> bool
-    requires { is_table first_eight table.now ≡ true }
-    ensures { result ≡ holds (ids_of first_eight table.now) id }
+pub(crate) fn is_held(table: Table<'_>, hints: Option<&Hints>, id: u64) -> bool
+    ensures { result ≡ elem id (ids_of first_eight table.entry.bytes.now) }
 {
     if let Some(hints) = hints {
         let p = place_before(table, id, hints[beginning(id)]);
-        if crate::table::element_id(table, p) < id {
-            let next = crate::table::element_id(table, p + 1);
+        if table.element_id(p) < id {
+            let next = table.element_id(p + 1);
             if id <= next {
                 return next == id;
             }
         }
     }
-    crate::table::holds_id(table, id)
+    table.holds_id(id)
 }
 
 // From a place on, the first whose next ID is not below the one sought. At most four steps, so that no table makes this slow: in a table of
 // hashes more than four IDs seldom share a beginning.
-fn place_before(table: &[u8], id: u64, from: u16) -> usize
+fn place_before(table: Table<'_>, id: u64, from: u16) -> usize
     ensures { result ≤ 65539 }
 {
     let from = from as usize;
     for p in from..from + 4 {
-        if id <= crate::table::element_id(table, p + 1) {
+        if id <= table.element_id(p + 1) {
             return p;
         }
     }

@@ -12,6 +12,7 @@ ghost use Rattle.filter.specs.Steps.{Ready, Received, Wide, Peels};
 use crate::answers::{Reading, Refusal, Unread, Verdict};
 use crate::peeling::Peeled;
 use crate::repeats::Trees;
+use crate::table::Table;
 
 // Reads the difference of our table and a received filter, at a size and a salt, into two lists: IDs that are only ours, and only theirs.
 // Refused: a bad table or a COUNT outside 0 to 2^32 − 1, then a size or salt out of range, then a column or list shorter than size; then
@@ -83,7 +84,17 @@ fn read_difference(
     if let Some(n) = p.listed {
         let a = n.ours;
         let b = n.theirs;
-        let v = crate::judging::judge(table, ids, hashes, counts, &ours[..a], &theirs[..b], size);
+        let ours = &ours[..a];
+        let theirs = &theirs[..b];
+        let v = crate::judging::judge(
+            Table { bytes: table },
+            ids,
+            hashes,
+            counts,
+            ours,
+            theirs,
+            size,
+        );
         match v {
             Verdict::Complete => {
                 return Ok(Reading {

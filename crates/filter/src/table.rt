@@ -1,10 +1,37 @@
 // A table: bytes of 64-byte hashes, ascending, no two sharing an ID. Its form, and searches in it.
-ghost use Rattle.std.specs.Prelude.{◌≡◌, ◌&&◌, ◌*◌, ◌/◌, ◌≤◌, ◌<◌, ltb, leb, length, get_or};
-ghost use Rattle.bucket.specs.Lists.{part};
+ghost use Rattle.std.specs.Prelude.{◌≡◌, true, ◌&&◌, ◌*◌, ◌/◌, ◌≤◌, ◌<◌, ltb, leb, length, get_or};
+ghost use Rattle.bucket.specs.Lists.{part, elem};
 ghost use Rattle.filter.specs.Lists.{ascending};
 ghost use Rattle.filter.specs.Table.{hashes_of, first_eight, ids_of, is_table, position, holds};
 
 use crate::searching::bisect;
+
+// Bytes that are a table, for functions that take nothing else.
+#[derive(Clone, Copy)]
+pub(crate) struct Table<'a> {
+    pub(crate) bytes: &'a [u8],
+    ghost well_formed: { is_table first_eight bytes.now ≡ true },
+}
+
+impl<'a> Table<'a> {
+    pub(crate) fn count(self) -> usize
+        ensures { (result ≡ length (ids_of first_eight self.entry.bytes.now)) × (result ≤ 4096) }
+    {
+        count(self.bytes)
+    }
+
+    pub(crate) fn element_id(self, i: usize) -> u64
+        ensures { result ≡ get_or (ids_of first_eight self.entry.bytes.now) i 0 }
+    {
+        element_id(self.bytes, i)
+    }
+
+    pub(crate) fn holds_id(self, id: u64) -> bool
+        ensures { result ≡ elem id (ids_of first_eight self.entry.bytes.now) }
+    {
+        holds_id(self.bytes, id)
+    }
+}
 
 // How many whole hashes the bytes hold.
 pub fn count(table: &[u8]) -> usize

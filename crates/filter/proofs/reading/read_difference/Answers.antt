@@ -16,6 +16,6 @@ pub returns : goal.returns
 returns c = let p = c.peel_difference-p.ensures in
     let e = c.clear_all.ensures in
     elim c.match-p.branch [
-      in-Some+in-False w ↦ read_false_lem c.requires p.0 w.in-Some.is p.1 w.judge-v.ensures w.in-False.is e.0 e.1 e.2
-    | in_default w ↦ read_none c.requires p.0 p.1 w.in_default.is e.0 e.1 e.2
+      | in-Some+in-False w ↦ read_false_lem c.requires p.0 w.in-Some.is p.1 w.judge-v.ensures w.in-False.is e.0 e.1 e.2
+      | in_default w ↦ read_none c.requires p.0 p.1 w.in_default.is e.0 e.1 e.2
     ]
