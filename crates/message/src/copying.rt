@@ -55,6 +55,7 @@ impl Number for u32 {
     }
 
     fn of(x: u64) -> u32 {
+        // By `as`: four bytes always fit, and `try_from` would want a value for a case that there isn't.
         x as u32
     }
 }

@@ -7,5 +7,6 @@ pub(crate) fn word_at(s: &[u8], at: usize, k: usize) -> u32
     requires { k ≤ 4 }
     ensures { result ≡ field k at s.now }
 {
+    // By `as`: four bytes always fit, and `try_from` would want a value for a case that there isn't.
     bucket::bytes::number_at(s, at, k) as u32
 }

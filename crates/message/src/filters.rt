@@ -45,6 +45,7 @@ fn width_for(counts: &[i64]) -> u32
     requires { all_counts counts.now ≡ true }
     ensures { result ≡ width_of (largest (numbers counts.now)) }
 {
+    // By `as`, as no count is above 2^32 - 1.
     bucket::counts::width(largest(counts) as u32)
 }
 

@@ -1,14 +1,14 @@
 // One message put into a lent buffer, where there is room for it.
 ghost use Rattle.std.specs.Prelude.{◌≡◌, ◌+◌, ◌*◌, ◌≤◌, length};
 ghost use Rattle.bucket.specs.Columns.{columns};
-ghost use Rattle.bucket.specs.Lists.{over, part};
+ghost use Rattle.bucket.specs.Lists.{over};
 ghost use Rattle.message.specs.Layout.{inquiry, layout, framed, in_slice, slice_bytes};
 ghost use Rattle.message.specs.Writing.{slice_at, layouts, slices_of};
 ghost use Rattle.message.specs.Putting.{head_of, SlicePut, FilterPut, filter_bytes};
 
 use crate::copying::{put_numbers, put_pair};
 use crate::kinds::{INQUIRY, Slice};
-use crate::slices::{SECOND, in_slice};
+use crate::slices::{SECOND, in_slice, slice_bytes, slice_type};
 
 // MSG SIZE and MSG TYPE before bytes that are copied; answers the position behind them.
 pub(crate) fn put_framed(kind: u32, bytes: &[u8], out: &mut [u8], at: usize) -> usize
@@ -40,23 +40,18 @@ fn put_head(slice: Slice, out: &mut [u8], at: usize) -> usize
     ensures next { result ≡ at + 16 }
     ensures put { out.new ≡ over at (head_of slice) out.old }
 {
-    let total = crate::slices::slice_bytes(slice.width, slice.count);
-    let kind = crate::slices::slice_type(slice.size, slice.offset);
+    let Slice {
+        size,
+        offset,
+        salt,
+        width,
+        count,
+    } = slice;
+    let total = slice_bytes(width, count);
+    let kind = slice_type(size, offset);
     put_pair(out, at, 2, total as u64, u64::from(kind));
-    put_pair(
-        out,
-        at + 4,
-        4,
-        u64::from(slice.size),
-        u64::from(slice.offset),
-    );
-    put_pair(
-        out,
-        at + 12,
-        2,
-        u64::from(slice.salt),
-        u64::from(slice.width),
-    );
+    put_pair(out, at + 4, 4, u64::from(size), u64::from(offset));
+    put_pair(out, at + 12, 2, u64::from(salt), u64::from(width));
     at + 16
 }
 

@@ -52,8 +52,9 @@ fn lay_slice(
     }
     let from = offset as usize;
     let to = from + n;
-    lay_numbers(&s[16..16 + 8 * n], &mut ids[from..to]);
-    lay_numbers(&s[16 + 8 * n..16 + 12 * n], &mut hashes[from..to]);
+    let middle = 16 + 8 * n;
+    lay_numbers(&s[16..middle], &mut ids[from..to]);
+    lay_numbers(&s[middle..middle + 4 * n], &mut hashes[from..to]);
     bucket::packing::unpack(s, 16 + 12 * n, n, width, counts, from);
     Ok(())
 }

@@ -1,5 +1,5 @@
 -- `message::laying::lay_slice` meets its contract: where each column has room, the three are laid one by one. Assumes nothing.
-use Prim.Native.Nat.{◌+◌, ◌-◌, ◌*◌}
+use Prim.Native.Nat.{◌+◌}
 use native.Mathlib.Nat.{add-sub_cancel_left}
 use native.Mathlib.Omega.{arith}
 use Rattle.bucket.specs.Columns.{columns}
@@ -9,7 +9,7 @@ use Rattle.bucket.proofs.TestLaws.{test_granted}
 use Rattle.filter.specs.Steps.{Wide}
 use Rattle.filter.proofs.FilledLaws.{wide_of}
 use Rattle.message.proofs.LayLaws.{laid-part, buckets_laid_lem}
-use Rattle.std.proofs.Common.{◌≡◌, ap}
+use Rattle.std.proofs.Common.{ap}
 use mathlib.Core.Bool.{not}
 use Rattle.message.proofs.laying.lay_slice.Goals as goal
 use Rattle.message.proofs.laying.lay_slice.Goals.{Else-not-has_room}
@@ -28,10 +28,8 @@ slice_bounds-lay_numbers-end-4 c = omega (arith, (wide (goal.at.slice_bounds-lay
 pub returns : goal.returns
 returns c = let a = c.args in
     let room = wide (goal.at.returns c).Else-not-has_room in
-    let first : 16 + 8 * a.n - 16 ≡ 8 * a.n = omega arith in
-    let second : 16 + 12 * a.n - (16 + 8 * a.n) ≡ 4 * a.n = omega arith in
-    let ids = rw (add-sub_cancel_left a.offset a.n, part_length a.offset a.ids.now a.n room.idsums, first) at c.lay_numbers.ensures in
-    let hashes = rw (add-sub_cancel_left a.offset a.n, part_length a.offset a.hashes.now a.n room.hashsums, second) at c.lay_numbers-2.ensures in
+    let ids = rw (add-sub_cancel_left a.offset a.n, part_length a.offset a.ids.now a.n room.idsums, add-sub_cancel_left) at c.lay_numbers.ensures in
+    let hashes = rw (add-sub_cancel_left a.offset a.n, part_length a.offset a.hashes.now a.n room.hashsums, add-sub_cancel_left) at c.lay_numbers-2.ensures in
     buckets_laid_lem a.offset a.width a.n a.s.now (columns a.ids.now a.hashes.now a.counts.now)
     (test_granted c.has_room.ensures (ap not c.if-not-has_room.false))
     c.requires.2
