@@ -20,7 +20,7 @@ use Rattle.filter.specs.Calls.{in_range, is_count, all_counts, are_counts, has_r
 use Rattle.filter.specs.Steps.{Wide}
 use Rattle.filter.specs.Table.{is_table}
 use Rattle.filter.proofs.FilledLaws.{wide_of}
-use Rattle.message.specs.Layout.{Slice, slice, in_slice, IBF, IBF_LAST}
+use Rattle.message.specs.Layout.{GoodSlice, slice, in_slice, IBF, IBF_LAST}
 use Rattle.message.specs.Laying.{laid}
 use Rattle.message.proofs.ReadLaws.{both}
 use Rattle.ledger.specs.Grid.{EXPECTING_LAST, is_last}
@@ -51,7 +51,7 @@ last_ends size offset e = eqb-true (offset + in_slice size offset) size (go (eqb
     go true k = refl
     go false k = absurd (false≢true k)
 
-widths : (size offset salt width : ℕ) {ids hashes counts : List ℕ} → Slice size offset salt width ids hashes counts → width ≤ 32
+widths : (size offset salt width : ℕ) {ids hashes counts : List ℕ} → GoodSlice size offset salt width ids hashes counts → width ≤ 32
 widths size offset salt width g =
     leb-true width 32
     (and_r (leb 37 size && leb size 4096 && (eqb offset 0 || eqb offset 2520) && ltb offset size && ltb salt 64 && leb 1 width) (leb width 32) g.ranges)
@@ -69,7 +69,7 @@ before-judged s size offset salt width e counted = go («in» s EXPECTING_LAST) 
     go false q k = subst (λ (n : ℕ). are_counts n s.columns.counts ≡ true) (sym (eqb-true offset 0 k)) (unfold all_counts in refl)
 
 module _ (derive : ℕ → ℕ) (bytes : List ℕ) (s : Session) (size offset salt width : ℕ) (ids hashes counts : List ℕ) where
-  pub last_granted : is_table derive bytes ≡ true → Slice size offset salt width ids hashes counts → is_last size offset ≡ true
+  pub last_granted : is_table derive bytes ≡ true → GoodSlice size offset salt width ids hashes counts → is_last size offset ≡ true
       → placed s size offset salt width ≡ true → («in» s EXPECTING_LAST ≡ true → are_counts 2520 s.columns.counts ≡ true)
       → has_room 4096 s.columns ≡ true → leb 4096 (length s.ours) ≡ true → leb 4096 (length s.theirs) ≡ true
       → read_refusal derive size salt bytes (laid (slice size offset salt width ids hashes counts) s.columns) s.ours s.theirs ≡ None

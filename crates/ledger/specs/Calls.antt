@@ -11,7 +11,7 @@
 -- 64 bytes of the far checksum. `marks`: a mark for each element of the table, and from 4,096 on one for each hash demanded. `inquired`: IDs,
 -- ascending. Places behind what the numbers count are neither judged nor changed.
 -- Assumes nothing.
-use Rattle.std.specs.Prelude.{Bool, not, ◌&&◌, cond, List, [], ◌∷◌, ◌++◌, ℕ, ◌-◌, ◌*◌, ◌/◌, min, eqb, leb, length, take, replicate}
+use Rattle.std.specs.Prelude.{Bool, not, ◌&&◌, cond, List, [], ◌∷◌, ◌++◌, ℕ, ◌-◌, ◌*◌, ◌/◌, min, eqb, leb, length, take, replicate, Option, Some, None}
 use Rattle.bucket.specs.Columns.{Columns}
 use Rattle.bucket.specs.Digits.{joined, packed}
 use Rattle.bucket.specs.Lists.{over, part}
@@ -21,7 +21,6 @@ use Rattle.filter.specs.Answers.{refusal_number, first_of}
 use Rattle.filter.specs.Calls.{in_range, are_counts, has_room}
 use Rattle.filter.specs.Table.{hashes_of, is_table}
 use Rattle.message.specs.declared.kinds.Message.{Message}
-use Rattle.message.specs.declared.kinds.Message.TheVariants.{Ibf, IbfLast, Inquiry, Offer, Demand, Element, Done}
 use Rattle.message.specs.Layout.{Content}
 use Rattle.message.specs.Reading.{content}
 use Rattle.message.specs.Walking.{exactly_one}
@@ -240,15 +239,9 @@ step_on derive c G =
     cond (acts n) (went derive n (act derive t (hash_given G) s c) G) (ended n (refused derive t n s c) G)
 
 -- "a session call must be given exactly one, or it is malformed"
-unfoldable pub step_said : (ℕ → ℕ) → Message → Given → Left
-step_said derive (Ibf size offset salt width n) G = step_on derive (content (Ibf size offset salt width n) G.message) G
-step_said derive (IbfLast size offset salt width n) G = step_on derive (content (IbfLast size offset salt width n) G.message) G
-step_said derive (Inquiry salt n) G = step_on derive (content (Inquiry salt n) G.message) G
-step_said derive (Offer n) G = step_on derive (content (Offer n) G.message) G
-step_said derive (Demand n) G = step_on derive (content (Demand n) G.message) G
-step_said derive (Element n) G = step_on derive (content (Element n) G.message) G
-step_said derive Done G = step_on derive (content Done G.message) G
-step_said derive Message.Malformed G = unchanged (refusal_number Malformed) ABORTED G
+unfoldable pub step_said : (ℕ → ℕ) → Option Message → Given → Left
+step_said derive (Some m) G = step_on derive (content m G.message) G
+step_said derive None G = unchanged (refusal_number Malformed) ABORTED G
 
 unfoldable pub step_call : (ℕ → ℕ) → Given → Left
 step_call derive G =

@@ -1,14 +1,14 @@
 -- What the two messages of slices may count on where a step is sound: what is read is good and reaches the end or not, and the last slice is
 -- read. Assumes nothing.
 use mathlib.Core.Path.{◌≡◌, refl, sym, ap, subst, ◌∙◌}
-use mathlib.Core.Logic.{inl, inr}
-use mathlib.Core.Bool.{Bool, true, false, ◌&&◌, cond, true≢false}
+use mathlib.Core.Bool.{Bool, true, false, ◌&&◌, cond}
 use mathlib.Core.List.{List}
 use Prim.Native.Nat.{ℕ, ◌+◌, ◌*◌}
 use native.Mathlib.Omega.{arith}
 use lib.Dec.{eqb, leb}
 use lib.ListN.{length}
 use borrow.Author.Tests.{leb-true, le-leb, lt-ltb, eq-eqb, ne_eqb}
+use Rattle.std.proofs.Common.{Some}
 use Rattle.bucket.specs.Digits.{unpacked, Below}
 use Rattle.bucket.specs.Lists.{part}
 use Rattle.bucket.specs.Packing.{counters_at}
@@ -18,13 +18,14 @@ use Rattle.filter.specs.Calls.{in_range, are_counts, has_room, read_refusal}
 use Rattle.filter.specs.Sets.{implies}
 use Rattle.filter.specs.Table.{first_eight, is_table}
 use Rattle.message.specs.declared.kinds.Message.{Message}
-use Rattle.message.specs.declared.kinds.Message.TheVariants.{Ibf, IbfLast, Malformed}
+use Rattle.message.specs.declared.kinds.Message.TheVariants.{Ibf, IbfLast}
+use Rattle.message.specs.declared.kinds.Slice.{Slice}
 use Rattle.message.specs.Laying.{laid, is_slice}
 use Rattle.message.specs.Layout.{IBF, IBF_LAST, Good, in_slice}
 use Rattle.message.specs.Reading.{content}
 use Rattle.message.specs.Walking.{exactly_one}
 use Rattle.message.proofs.ShapeLaws.{Sliced, shape, last_reaches, other_stops}
-use Rattle.message.proofs.SoundLaws.{sound}
+use Rattle.message.proofs.SoundLaws.{Sound as Said, sound}
 use Rattle.ledger.specs.Grid.{EXPECTING_LAST, is_last}
 use Rattle.ledger.specs.Session.{placed}
 use Rattle.ledger.specs.Form.{good_numbers, idle}
@@ -41,12 +42,8 @@ use Rattle.ledger.proofs.GivenLaws.{given-table, given-rooms}
 -- ---- messages
 
 -- what is read is in its ranges
-pub read-good : (bs : List ℕ) → Below 8 bs → (m : Message) → exactly_one bs ≡ m → (m ≡ Malformed → ⊥) → Good (content m bs)
-read-good bs below m e ne = go (sound bs below)
-  where
-    go : Rattle.message.proofs.SoundLaws.Sound bs (exactly_one bs) → Good (content m bs)
-    go (inl k) = absurd (ne (sym e ∙ k))
-    go (inr k) = subst (λ (x : Message). Good (content x bs)) e k.good
+pub read-good : (bs : List ℕ) → Below 8 bs → {m : Message} → exactly_one bs ≡ Some m → Good (content m bs)
+read-good bs below e = (subst (Said bs) e (sound bs below)).good
 
 is_last_lem : (b : Bool) → b ≡ true → eqb (cond b IBF_LAST IBF) IBF_LAST ≡ true
 is_last_lem b e = rw e
@@ -55,25 +52,25 @@ not_last : (b : Bool) → b ≡ false → eqb (cond b IBF_LAST IBF) IBF_LAST ≡
 not_last b e = rw e
 
 -- the slice that reaches the end
-module _ (bs : List ℕ) (size offset salt width n : ℕ) where
-  pub last_is_last : exactly_one bs ≡ IbfLast size offset salt width n → is_last size offset ≡ true
+module _ (bs : List ℕ) (t : Slice) where
+  pub last_is_last : exactly_one bs ≡ Some (IbfLast t) → is_last t.size t.offset ≡ true
   last_is_last e =
-      let h : Sliced bs IBF_LAST size offset salt width n = shape bs e in
-      is_last_lem (eqb (offset + in_slice size offset) size)
-      (eq-eqb (offset + in_slice size offset) size (ap (λ (k : ℕ). offset + k) (sym h.number) ∙ last_reaches h))
+      let h : Sliced bs IBF_LAST t = shape bs e in
+      is_last_lem (eqb (t.offset + in_slice t.size t.offset) t.size)
+      (eq-eqb (t.offset + in_slice t.size t.offset) t.size (ap (λ (k : ℕ). t.offset + k) (sym h.number) ∙ last_reaches h))
 
-  pub other_not_last : exactly_one bs ≡ Ibf size offset salt width n → is_last size offset ≡ false
+  pub other_not_last : exactly_one bs ≡ Some (Ibf t) → is_last t.size t.offset ≡ false
   other_not_last e =
-      let h : Sliced bs IBF size offset salt width n = shape bs e in
-      not_last (eqb (offset + in_slice size offset) size)
-      (ne_eqb (offset + in_slice size offset) size (λ k. absurd (omega (arith, h.number, other_stops h))))
+      let h : Sliced bs IBF t = shape bs e in
+      not_last (eqb (t.offset + in_slice t.size t.offset) t.size)
+      (ne_eqb (t.offset + in_slice t.size t.offset) t.size (λ k. absurd (omega (arith, h.number, other_stops h))))
 
-  pub last_range : exactly_one bs ≡ IbfLast size offset salt width n → in_range size salt ≡ true
+  pub last_range : exactly_one bs ≡ Some (IbfLast t) → in_range t.size t.salt ≡ true
   unfolding in_range
   last_range e =
-      let h : Sliced bs IBF_LAST size offset salt width n = shape bs e in
-      let r : Ranges size salt = ranges size offset salt width h.good in
-      and_holds (le-leb 37 size r.low) (and_holds (le-leb size 4096 r.high) (lt-ltb salt 64 r.small))
+      let h : Sliced bs IBF_LAST t = shape bs e in
+      let r : Ranges t.size t.salt = ranges t.size t.offset t.salt t.width h.good in
+      and_holds (le-leb 37 t.size r.low) (and_holds (le-leb t.size 4096 r.high) (lt-ltb t.salt 64 r.small))
 
 -- ---- what a sound step is given
 
@@ -103,32 +100,27 @@ module _ (G : Given) (s : Sound G) where
 
   -- ---- slices
 
-  pub slice-lays : is_slice (exactly_one G.message) ≡ true → Lays G.message G.columns
-  slice-lays e = record { slice = e; room = columns-room }
-
-  pub slice-good : is_slice (exactly_one G.message) ≡ true → Good (content (exactly_one G.message) G.message)
-  slice-good e = read-good G.message s.message-bytes (exactly_one G.message) refl (λ k. absurd (true≢false (sym e ∙ ap is_slice k)))
+  pub slice-lays : (m : Message) → exactly_one G.message ≡ Some m → is_slice m ≡ true → Lays G.message m G.columns
+  slice-lays m e k = record { read = e; slice = k; room = columns-room }
 
   -- the last one is read
-  module _ (size offset salt width n : ℕ) where
-    last_reads : exactly_one G.message ≡ IbfLast size offset salt width n → is_placed G.numbers size offset salt width ≡ true
-        → read_refusal first_eight size salt G.table (laid (content (exactly_one G.message) G.message) G.columns) G.ours G.theirs ≡ None
+  module _ (t : Slice) (e : exactly_one G.message ≡ Some (IbfLast t)) where
+    last_reads : is_placed G.numbers t.size t.offset t.salt t.width ≡ true
+        → read_refusal first_eight t.size t.salt G.table (laid (content (IbfLast t) G.message) G.columns) G.ours G.theirs ≡ None
     unfolding content placed is_placed session_of
-    last_reads e k =
-        subst
-        (λ (m : Message). read_refusal first_eight size salt G.table (laid (content m G.message) G.columns) G.ours G.theirs ≡ None) (sym e)
-        (last_granted first_eight G.table (session_of first_eight G) size offset salt width
-        (unpacked 64 n (part 16 (8 * n) G.message)) (unpacked 32 n (part (16 + 8 * n) (4 * n) G.message)) (counters_at width n (16 + 12 * n) G.message)
-        (given-table G s) (subst (λ (m : Message). Good (content m G.message)) e (slice-good (ap is_slice e)))
-        (last_is_last G.message size offset salt width n e) k given-counts columns-room ours-room theirs-room)
+    last_reads k =
+        let n = t.count in
+        last_granted first_eight G.table (session_of first_eight G) t.size t.offset t.salt t.width
+        (unpacked 64 n (part 16 (8 * n) G.message)) (unpacked 32 n (part (16 + 8 * n) (4 * n) G.message)) (counters_at t.width n (16 + 12 * n) G.message)
+        (given-table G s) (read-good G.message s.message-bytes e)
+        (last_is_last G.message t e) k given-counts columns-room ours-room theirs-room
 
-    pub last_ready : exactly_one G.message ≡ IbfLast size offset salt width n
-        → Reads G.numbers G.table G.message size offset salt width G.columns G.ours G.theirs G.marks G.inquired G.out
-    last_ready e = record {
-      lays = slice-lays (ap is_slice e);
+    pub last_ready : Reads G.numbers G.table G.message t G.columns G.ours G.theirs G.marks G.inquired G.out
+    last_ready = record {
+      lays = slice-lays (IbfLast t) e refl;
       table-good = given-table G s;
-      range = last_range G.message size offset salt width n e;
-      granted = last_reads e;
+      range = last_range G.message t e;
+      granted = last_reads;
       ours-room = leb-true 4096 (length G.ours) ours-room;
       theirs-room = leb-true 4096 (length G.theirs) theirs-room;
       marks-room = (given-rooms G s).1;

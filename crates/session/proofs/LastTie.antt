@@ -15,8 +15,9 @@ use Rattle.filter.specs.declared.answers.Refusal.TheVariants.{None, Malformed, O
 use Rattle.filter.specs.Answers.{refusal_number, first_of}
 use Rattle.filter.specs.Calls.{Read, filled, listed_into}
 use Rattle.filter.specs.Table.{first_eight}
+use Rattle.message.specs.declared.kinds.Slice.{Slice}
 use Rattle.message.specs.Laying.{laid}
-use Rattle.message.specs.Layout.{Content, slice, Slice}
+use Rattle.message.specs.Layout.{Content, slice, GoodSlice}
 use Rattle.message.specs.Writing.{layouts}
 use Rattle.filter.specs.Sets.{count}
 use Rattle.ledger.specs.Grid.{PASSIVE, is_last}
@@ -169,49 +170,49 @@ module _ (G : Given) (s : Sound G) (empty : (session_in G).ledger ≡ no_ledger)
 
 -- ---- IBF LAST
 
-module _ (G : Given) (s : Sound G) (size offset salt width : ℕ) (ids hashes counts : List ℕ) (good : Slice size offset salt width ids hashes counts)
-    (e : is_last size offset ≡ true) where
+module _ (G : Given) (s : Sound G) (t : Slice) (ids hashes counts : List ℕ) (good : GoodSlice t.size t.offset t.salt t.width ids hashes counts)
+    (e : is_last t.size t.offset ≡ true) where
   abbrev c : Content
-  c = slice size offset salt width ids hashes counts
+  c = slice t.size t.offset t.salt t.width ids hashes counts
 
   abbrev read : Read
-  read = reading_at first_eight (table_of G) size salt (laid c G.columns) G.ours G.theirs
+  read = reading_at first_eight (table_of G) t.size t.salt (laid c G.columns) G.ours G.theirs
 
   reads : Known (table_of G) size read
   reads = record {
-    law = read-law first_eight (table_of G) size salt (laid c G.columns) G.ours G.theirs;
-    clean = complete-clean first_eight (table_of G) size salt (laid c G.columns) G.ours G.theirs;
-    lists = listing first_eight (table_of G) size salt (laid c G.columns) G.ours G.theirs;
+    law = read-law first_eight (table_of G) t.size t.salt (laid c G.columns) G.ours G.theirs;
+    clean = complete-clean first_eight (table_of G) t.size t.salt (laid c G.columns) G.ours G.theirs;
+    lists = listing first_eight (table_of G) t.size t.salt (laid c G.columns) G.ours G.theirs;
   }
 
   -- nothing has come where a slice is admitted
   idles : admits_slice G.numbers 1 ≡ true → (session_in G).ledger ≡ no_ledger
   idles a =
       (given-form G s).empty
-      (slice-idle (session_in G) c (slice-kind (is_last size offset)) (admits_is G size offset salt width ids hashes counts true e ∙ a))
+      (slice-idle (session_in G) c (slice-kind (is_last t.size t.offset)) (admits_is G t.size t.offset t.salt t.width ids hashes counts true e ∙ a))
 
   acted : act_in G c
-      ≡ cond (is_complete read) (decoded first_eight (table_of G) (session_in G) read size salt) (swapped first_eight (table_of G) (session_in G) read size salt)
+      ≡ cond (is_complete read) (decoded first_eight (table_of G) (session_in G) read t.size t.salt) (swapped first_eight (table_of G) (session_in G) read t.size t.salt)
   unfolding act by_slice on_slice session_of
   acted = rw e
 
   zeroes : (n : ℕ) → clears n ≡ true → refused first_eight (table_of G) n (session_in G) c ≡ cleared first_eight (table_of G) (session_in G) read size
   unfolding session_of
-  zeroes n = refusal-cleared first_eight (table_of G) n (session_in G) size offset salt width ids hashes counts
+  zeroes n = refusal-cleared first_eight (table_of G) n (session_in G) t.size t.offset t.salt t.width ids hashes counts
 
-  pub last_tie : let x = last_turn G.numbers G.table c size offset salt width G.columns G.ours G.theirs G.marks G.inquired G.out in
+  pub last_tie : let x = last_turn G.numbers G.table c t G.columns G.ours G.theirs G.marks G.inquired G.out in
       left x.answer G.records x.marks x.inquired x.read.columns x.read.ours x.read.theirs x.out ≡ step_on first_eight c G
   unfolding last_turn
   last_tie =
-      go (admits_slice G.numbers 1) refl (is_placed G.numbers size offset salt width) (slice-refusal G size offset salt width ids hashes counts true e)
+      go (admits_slice G.numbers 1) refl (is_placed G.numbers t.size t.offset t.salt t.width) (slice-refusal G t.size t.offset t.salt t.width ids hashes counts true e)
     where
       go : (a : Bool) → admits_slice G.numbers 1 ≡ a → (p : Bool)
           → refusal_in G c ≡ refusal_number (cond a (cond p (read_fault true (table_of G) G.numbers.swaps read) Malformed) OutOfTurn)
           → let x = cond a
-          (cond p (read_turn G.numbers G.table size salt read G.marks G.inquired G.out)
+          (cond p (read_turn G.numbers G.table t.size t.salt read G.marks G.inquired G.out)
           (last_turn' (aborted 4 G.numbers) G.marks G.inquired (untouched G.columns G.ours G.theirs) G.out))
           (last_turn' (aborted 5 G.numbers) G.marks G.inquired (untouched G.columns G.ours G.theirs) G.out) in
           left x.answer G.records x.marks x.inquired x.read.columns x.read.ours x.read.theirs x.out ≡ step_on first_eight c G
-      go true q true f = read_tie G s (idles q) c size salt (ranges size offset salt width good.ranges).high read reads acted zeroes f
+      go true q true f = read_tie G s (idles q) c t.size t.salt (ranges t.size t.offset t.salt t.width good.ranges).high read reads acted zeroes f
       go true q false f = halted_tie G s c 4 refl refl f
       go false q p f = halted_tie G s c 5 refl refl f

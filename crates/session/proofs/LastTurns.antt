@@ -14,9 +14,10 @@ use Rattle.filter.specs.Steps.{Wide}
 use Rattle.filter.specs.Table.{first_eight, hashes_of, ids_of}
 use Rattle.filter.proofs.FilledLaws.{wide_of}
 use Rattle.filter.proofs.PartLaws.{range-sound}
+use Rattle.message.specs.declared.kinds.Message.TheVariants.{IbfLast}
+use Rattle.message.specs.declared.kinds.Slice.{Slice}
 use Rattle.message.specs.Laying.{laid}
 use Rattle.message.specs.Reading.{content}
-use Rattle.message.specs.Walking.{exactly_one}
 use Rattle.message.specs.Writing.{layouts}
 use Rattle.session.specs.declared.filters.Fate.{Fate}
 use Rattle.ledger.specs.declared.numbers.Numbers.{Numbers}
@@ -38,39 +39,39 @@ module _ (size : ℕ) (r : Read) (ids : size ≤ length r.columns.idsums) (hashe
 
 -- ---- the reading, and what it leaves
 
-module _ {table message : List ℕ} {size salt : ℕ} {cols : Columns} {ours theirs : List ℕ} (p : Whole table message size salt cols ours theirs)
-    {d : Columns} (is-laid : d ≡ laid (content (exactly_one message) message) cols)
-    {r : Read} (e : r ≡ read_call first_eight size salt table d ours theirs)
+module _ {table message : List ℕ} {t : Slice} {cols : Columns} {ours theirs : List ℕ} (p : Whole table message t cols ours theirs)
+    {d : Columns} (is-laid : d ≡ laid (content (IbfLast t) message) cols)
+    {r : Read} (e : r ≡ read_call first_eight t.size t.salt table d ours theirs)
     (swaps : ℕ) {n : ℕ} (counted : n ≡ length (hashes_of table))
     {f : Fate} (told : Fated r.answer n swaps f) where
-  reads : r ≡ whole_read table message size salt cols ours theirs
+  reads : r ≡ whole_read table message t cols ours theirs
   reads =
       e
-      ∙ ap (λ (c : Columns). read_call first_eight size salt table c ours theirs) is-laid
-      ∙ call_reads size salt table (laid (content (exactly_one message) message) cols) ours theirs p.granted
+      ∙ ap (λ (c : Columns). read_call first_eight t.size t.salt table c ours theirs) is-laid
+      ∙ call_reads t.size t.salt table (laid (content (IbfLast t) message) cols) ours theirs p.granted
 
-  ends : {after : Read} → after ≡ cond (clears f.refusal) (wiped size r) (kept r) → Ended (whole_read table message size salt cols ours theirs) table size swaps f after
+  ends : {after : Read} → after ≡ cond (clears f.refusal) (wiped t.size r) (kept r) → Ended (whole_read table message t cols ours theirs) table t.size swaps f after
   ends h = record {
     told =
         subst (λ (x : Read). Fated x.answer (length (hashes_of table)) swaps f) reads (subst (λ (m : ℕ). Fated r.answer m swaps f) counted told);
-    leaves = h ∙ ap (λ (x : Read). cond (clears f.refusal) (wiped size x) (kept x)) reads;
+    leaves = h ∙ ap (λ (x : Read). cond (clears f.refusal) (wiped t.size x) (kept x)) reads;
   }
 
-  pub ends-kept : clears f.refusal ≡ false → Ended (whole_read table message size salt cols ours theirs) table size swaps f (kept r)
-  ends-kept k = ends (ap (λ (b : Bool). cond b (wiped size r) (kept r)) (sym k))
+  pub ends-kept : clears f.refusal ≡ false → Ended (whole_read table message t cols ours theirs) table t.size swaps f (kept r)
+  ends-kept k = ends (ap (λ (b : Bool). cond b (wiped t.size r) (kept r)) (sym k))
 
   -- columns and lists have kept their lengths
   pub ends-wiped : clears f.refusal ≡ true → length r.columns.idsums ≡ length cols.idsums → length r.columns.hashsums ≡ length cols.hashsums
       → length r.columns.counts ≡ length cols.counts → length r.ours ≡ length ours → length r.theirs ≡ length theirs
-      → {m : ℕ} {c : Columns} {o th : List ℕ} → unread m c o th ≡ clear_call size r.columns r.ours r.theirs
-      → Ended (whole_read table message size salt cols ours theirs) table size swaps f (untouched c o th)
+      → {m : ℕ} {c : Columns} {o th : List ℕ} → unread m c o th ≡ clear_call t.size r.columns r.ours r.theirs
+      → Ended (whole_read table message t cols ours theirs) table t.size swaps f (untouched c o th)
   ends-wiped k i h n' o th q =
       let w : Wide 4096 cols = wide_of 4096 cols p.lays.room in
-      let few = (range-sound size salt p.range).most in
+      let few = (range-sound t.size t.salt p.range).most in
       ends
-      (ap kept (q ∙ wipes size r (omega (arith, few, w.idsums, i)) (omega (arith, few, w.hashsums, h)) (omega (arith, few, w.counts, n'))
+      (ap kept (q ∙ wipes t.size r (omega (arith, few, w.idsums, i)) (omega (arith, few, w.hashsums, h)) (omega (arith, few, w.counts, n'))
       (omega (arith, few, p.ours-room, o)) (omega (arith, few, p.theirs-room, th)))
-      ∙ ap (λ (b : Bool). cond b (wiped size r) (kept r)) (sym k))
+      ∙ ap (λ (b : Bool). cond b (wiped t.size r) (kept r)) (sym k))
 
 -- ---- how the reading ended
 
@@ -123,24 +124,24 @@ module _ (N : Numbers) (table : List ℕ) (size salt : ℕ) (r : Read) (M I out 
 
 -- ---- the message
 
-module _ {N : Numbers} {table message : List ℕ} {size offset salt width : ℕ} {cols : Columns} {ours theirs marks inquired out : List ℕ}
-    (p : Reads N table message size offset salt width cols ours theirs marks inquired out) where
+module _ {N : Numbers} {table message : List ℕ} {t : Slice} {cols : Columns} {ours theirs marks inquired out : List ℕ}
+    (p : Reads N table message t cols ours theirs marks inquired out) where
   abbrev turn : LastTurn
-  turn = last_turn N table (content (exactly_one message) message) size offset salt width cols ours theirs marks inquired out
+  turn = last_turn N table (content (IbfLast t) message) t cols ours theirs marks inquired out
 
   abbrev there : Read
-  there = whole_read table message size salt cols ours theirs
+  there = whole_read table message t cols ours theirs
 
   pub last_untimely : admits_slice N 1 ≡ false → {a : Answer} → a ≡ aborted 5 N → last_turn' a marks inquired (untouched cols ours theirs) out ≡ turn
   unfolding last_turn
   last_untimely e q = rw e (ap (λ (x : Answer). last_turn' x marks inquired (untouched cols ours theirs) out) q)
 
-  pub last_misplaced : admits_slice N 1 ≡ true → is_placed N size offset salt width ≡ false → {a : Answer} → a ≡ aborted 4 N
+  pub last_misplaced : admits_slice N 1 ≡ true → is_placed N t.size t.offset t.salt t.width ≡ false → {a : Answer} → a ≡ aborted 4 N
       → last_turn' a marks inquired (untouched cols ours theirs) out ≡ turn
   unfolding last_turn
   last_misplaced e k q = rw (e, k) (ap (λ (x : Answer). last_turn' x marks inquired (untouched cols ours theirs) out) q)
 
-  pub last_whole : is_placed N size offset salt width ≡ true → Whole table message size salt cols ours theirs
+  pub last_whole : is_placed N t.size t.offset t.salt t.width ≡ true → Whole table message t cols ours theirs
   last_whole k = record {
     lays = p.lays;
     table-good = p.table-good;
@@ -150,21 +151,21 @@ module _ {N : Numbers} {table message : List ℕ} {size offset salt width : ℕ}
     theirs-room = p.theirs-room;
   }
 
-  last_read : admits_slice N 1 ≡ true → is_placed N size offset salt width ≡ true → read_turn N table size salt there marks inquired out ≡ turn
+  last_read : admits_slice N 1 ≡ true → is_placed N t.size t.offset t.salt t.width ≡ true → read_turn N table t.size t.salt there marks inquired out ≡ turn
   unfolding last_turn
   last_read e k = rw (e, k)
 
-  module _ {f : Fate} {after : Read} (d : Ended there table size N.swaps f after) where
-    pub last_stops : admits_slice N 1 ≡ true → is_placed N size offset salt width ≡ true → clears f.refusal ≡ true → {a : Answer} → a ≡ aborted f.refusal N
+  module _ {f : Fate} {after : Read} (d : Ended there table t.size N.swaps f after) where
+    pub last_stops : admits_slice N 1 ≡ true → is_placed N t.size t.offset t.salt t.width ≡ true → clears f.refusal ≡ true → {a : Answer} → a ≡ aborted f.refusal N
         → last_turn' a marks inquired after out ≡ turn
     last_stops e k h q =
-        ap₂ (λ (x : Answer) (y : Read). last_turn' x marks inquired y out) q (d.leaves ∙ ap (λ (b : Bool). cond b (wiped size there) (kept there)) h)
-        ∙ read-stops N table size salt there marks inquired out d.told h
+        ap₂ (λ (x : Answer) (y : Read). last_turn' x marks inquired y out) q (d.leaves ∙ ap (λ (b : Bool). cond b (wiped t.size there) (kept there)) h)
+        ∙ read-stops N table t.size t.salt there marks inquired out d.told h
         ∙ last_read e k
 
     module _ (h : clears f.refusal ≡ false) where
       left : after ≡ kept there
-      left = d.leaves ∙ ap (λ (b : Bool). cond b (wiped size there) (kept there)) h
+      left = d.leaves ∙ ap (λ (b : Bool). cond b (wiped t.size there) (kept there)) h
 
       ours_is : take f.ours after.ours ≡ ours_in there
       ours_is = ap₂ take (ap (λ (g : Fate). g.ours) d.told) (ap (λ (x : Read). x.ours) left)
@@ -173,47 +174,47 @@ module _ {N : Numbers} {table message : List ℕ} {size offset salt width : ℕ}
       theirs_is = ap₂ take (ap (λ (g : Fate). g.theirs) d.told) (ap (λ (x : Read). x.theirs) left)
 
       pub opens_ready : f.complete ≡ true
-          → Opens table (take f.ours after.ours) marks × (f.ours ≤ length after.ours) × (f.theirs ≤ length after.theirs) × (f.ours ≤ 4096) × (f.theirs ≤ 4096) × (salt < 64)
+          → Opens table (take f.ours after.ours) marks × (f.ours ≤ length after.ours) × (f.theirs ≤ length after.theirs) × (f.ours ≤ 4096) × (f.theirs ≤ 4096) × (t.salt < 64)
           × (4096 ≤ length inquired) × (295008 ≤ length out)
       opens_ready q =
-          let l : Listing size there = listing first_eight (hashes_of table) size salt (laid (content (exactly_one message) message) cols) ours theirs in
-          let r = range-sound size salt p.range in
+          let l : Listing t.size there = listing first_eight (hashes_of table) t.size t.salt (laid (content (IbfLast t) message) cols) ours theirs in
+          let r = range-sound t.size t.salt p.range in
           let o = ap (λ (g : Fate). g.ours) d.told in
-          let t = ap (λ (g : Fate). g.theirs) d.told in (
+          let th = ap (λ (g : Fate). g.theirs) d.told in (
             subst (λ (xs : List ℕ). Opens table xs marks) (sym ours_is)
-                (reading-opens size salt table (laid (content (exactly_one message) message) cols) ours theirs p.table-good
+                (reading-opens t.size t.salt table (laid (content (IbfLast t) message) cols) ours theirs p.table-good
                 (sym (ap (λ (g : Fate). g.complete) d.told) ∙ q) marks p.marks-room),
             omega (arith, o, l.ours-there, ap (λ (x : Read). length x.ours) left),
-            omega (arith, t, l.theirs-there, ap (λ (x : Read). length x.theirs) left),
+            omega (arith, th, l.theirs-there, ap (λ (x : Read). length x.theirs) left),
             omega (arith, o, l.ours-few, r.most),
-            omega (arith, t, l.theirs-few, r.most),
+            omega (arith, th, l.theirs-few, r.most),
             r.salt_in,
             p.inquired-room,
             p.out-room,
           )
 
-      pub last_opens : admits_slice N 1 ≡ true → is_placed N size offset salt width ≡ true → f.complete ≡ true → {a : Answer} {M I o : List ℕ}
-          → open_turn' a M I o ≡ open_turn N table size salt (take f.ours after.ours) (take f.theirs after.theirs) marks inquired out
+      pub last_opens : admits_slice N 1 ≡ true → is_placed N t.size t.offset t.salt t.width ≡ true → f.complete ≡ true → {a : Answer} {M I o : List ℕ}
+          → open_turn' a M I o ≡ open_turn N table t.size t.salt (take f.ours after.ours) (take f.theirs after.theirs) marks inquired out
           → last_turn' a M I after o ≡ turn
       last_opens e k q {a} {M} {I} {o} s =
           ap (λ (y : Read). last_turn' a M I y o) left
-          ∙ read-opens N table size salt there marks inquired out d.told h q
-          (s ∙ ap₂ (λ (xs ys : List ℕ). open_turn N table size salt xs ys marks inquired out) ours_is theirs_is)
+          ∙ read-opens N table t.size t.salt there marks inquired out d.told h q
+          (s ∙ ap₂ (λ (xs ys : List ℕ). open_turn N table t.size t.salt xs ys marks inquired out) ours_is theirs_is)
           ∙ last_read e k
 
       module _ (q : f.complete ≡ false) where
-        pub swaps_ready : (size ≤ 4096) × (salt < 64) × (N.swaps < 16)
+        pub swaps_ready : (t.size ≤ 4096) × (t.salt < 64) × (N.swaps < 16)
         swaps_ready =
-            let r = range-sound size salt p.range in
-            (r.most, r.salt_in, swaps-few N table size salt there marks inquired out d.told h q)
+            let r = range-sound t.size t.salt p.range in
+            (r.most, r.salt_in, swaps-few N table t.size t.salt there marks inquired out d.told h q)
 
-        pub last_swaps : admits_slice N 1 ≡ true → is_placed N size offset salt width ≡ true → {next : Numbers} → next ≡ swapped_numbers N size salt → {n : ℕ} {o : List ℕ}
+        pub last_swaps : admits_slice N 1 ≡ true → is_placed N t.size t.offset t.salt t.width ≡ true → {next : Numbers} → next ≡ swapped_numbers N t.size t.salt → {n : ℕ} {o : List ℕ}
             → n ≡ length (layouts (own_filter (ids_of first_eight table) next.size next.salt))
             → o ≡ over 0 (layouts (own_filter (ids_of first_eight table) next.size next.salt)) out
             → last_turn' (answered f.refusal n 0 next) marks inquired after o ≡ turn
         last_swaps e k s {n} {o} i j =
             ap₂ (λ (x : Numbers) (y : Read). last_turn' (answered f.refusal n 0 x) marks inquired y o) s left
-            ∙ read-swaps N table size salt there marks inquired out d.told h q
+            ∙ read-swaps N table t.size t.salt there marks inquired out d.told h q
             (i ∙ ap (λ (x : Numbers). length (layouts (own_filter (ids_of first_eight table) x.size x.salt))) s)
             (j ∙ ap (λ (x : Numbers). over 0 (layouts (own_filter (ids_of first_eight table) x.size x.salt)) out) s)
             ∙ last_read e k

@@ -7,6 +7,7 @@ use Rattle.bucket.proofs.OverLaws.{over-nil}
 use Rattle.filter.specs.declared.answers.Refusal.TheVariants.{None, Malformed, OutOfTurn}
 use Rattle.filter.specs.Answers.{refusal_number}
 use Rattle.filter.specs.Table.{first_eight}
+use Rattle.message.specs.declared.kinds.Slice.{Slice}
 use Rattle.message.specs.Laying.{laid}
 use Rattle.message.specs.Layout.{Content, slice}
 use Rattle.message.specs.Writing.{layouts}
@@ -20,32 +21,32 @@ use Rattle.ledger.proofs.Sound.{Sound}
 use Rattle.session.proofs.TurnLaws.{session_in, refusal_in, act_in, halted_tie}
 use Rattle.session.proofs.SliceSteps.{slice-refusal, went-same, numbers-same}
 
-module _ (G : Given) (s : Sound G) (size offset salt width : ℕ) (ids hashes counts : List ℕ) (e : is_last size offset ≡ false) where
+module _ (G : Given) (s : Sound G) (t : Slice) (ids hashes counts : List ℕ) (e : is_last t.size t.offset ≡ false) where
   abbrev c : Content
-  c = slice size offset salt width ids hashes counts
+  c = slice t.size t.offset t.salt t.width ids hashes counts
 
-  acted : act_in G c ≡ answer (sliced (session_in G) c size salt width) []
+  acted : act_in G c ≡ answer (sliced (session_in G) c t.size t.salt t.width) []
   unfolding act by_slice on_slice
   acted = rw e
 
   goes : went first_eight 0 (act_in G c) G
-      ≡ left (answered 0 0 0 (sliced_numbers G.numbers size salt width)) G.records G.marks G.inquired (laid c G.columns) G.ours G.theirs G.out
+      ≡ left (answered 0 0 0 (sliced_numbers G.numbers t.size t.salt t.width)) G.records G.marks G.inquired (laid c G.columns) G.ours G.theirs G.out
   unfolding sliced session_of layouts
   goes =
       ap (λ (o : Outcome). went first_eight 0 o G) acted
-      ∙ went-same G s (sliced (session_in G) c size salt width) refl refl 0 []
-      ∙ (λ i. left (answered 0 0 0 (numbers-same G s (sliced (session_in G) c size salt width) refl i)) G.records G.marks G.inquired
+      ∙ went-same G s (sliced (session_in G) c t.size t.salt t.width) refl refl 0 []
+      ∙ (λ i. left (answered 0 0 0 (numbers-same G s (sliced (session_in G) c t.size t.salt t.width) refl i)) G.records G.marks G.inquired
       (laid c G.columns) G.ours G.theirs (over-nil 0 G.out i))
 
-  pub slice_tie : let x = slice_turn G.numbers c size offset salt width G.columns in
+  pub slice_tie : let x = slice_turn G.numbers c t G.columns in
       left x.answer G.records G.marks G.inquired x.columns G.ours G.theirs G.out ≡ step_on first_eight c G
   unfolding slice_turn
   slice_tie =
-      go (admits_slice G.numbers 0) (is_placed G.numbers size offset salt width) (slice-refusal G size offset salt width ids hashes counts false e)
+      go (admits_slice G.numbers 0) (is_placed G.numbers t.size t.offset t.salt t.width) (slice-refusal G t.size t.offset t.salt t.width ids hashes counts false e)
     where
       go : (a p : Bool) → refusal_in G c ≡ refusal_number (cond a (cond p None Malformed) OutOfTurn)
           → let x = cond a
-          (cond p (slice_turn' (answered 0 0 0 (sliced_numbers G.numbers size salt width)) (laid c G.columns)) (slice_turn' (aborted 4 G.numbers) G.columns))
+          (cond p (slice_turn' (answered 0 0 0 (sliced_numbers G.numbers t.size t.salt t.width)) (laid c G.columns)) (slice_turn' (aborted 4 G.numbers) G.columns))
           (slice_turn' (aborted 5 G.numbers) G.columns) in
           left x.answer G.records G.marks G.inquired x.columns G.ours G.theirs G.out ≡ step_on first_eight c G
       go true true k = sym (step-acts first_eight c G 0 k refl ∙ goes)

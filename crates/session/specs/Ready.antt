@@ -1,5 +1,5 @@
 -- What private functions may count on, as statements: cited by their contracts alone.
-use Rattle.std.specs.Prelude.{◌≡◌, Bool, true, cond, List, ℕ, ◌+◌, ◌-◌, ◌*◌, ◌≤◌, eqb, ltb, length}
+use Rattle.std.specs.Prelude.{◌≡◌, Bool, true, cond, List, ℕ, ◌+◌, ◌-◌, ◌*◌, ◌≤◌, eqb, ltb, length, Some}
 use Rattle.std.specs.Int.Bits.{bit_xor}
 use Rattle.bucket.specs.Digits.{joined, packed, Below}
 use Rattle.bucket.specs.Lists.{over}
@@ -8,6 +8,9 @@ use Rattle.filter.specs.declared.answers.ReadAnswer.{ReadAnswer}
 use Rattle.filter.specs.declared.answers.Refusal.TheVariants.{None}
 use Rattle.filter.specs.Calls.{Read, in_range, has_room, read_refusal}
 use Rattle.filter.specs.Table.{first_eight, hashes_of, ids_of, is_table}
+use Rattle.message.specs.declared.kinds.Message.{Message}
+use Rattle.message.specs.declared.kinds.Message.TheVariants.{IbfLast}
+use Rattle.message.specs.declared.kinds.Slice.{Slice}
 use Rattle.message.specs.Laying.{laid, is_slice}
 use Rattle.message.specs.Layout.{Content}
 use Rattle.message.specs.Reading.{content}
@@ -65,27 +68,28 @@ pub record Sent (cs : List Content) (before after : List ℕ) (n : ℕ) : Type 0
   pub count : n ≡ length (layouts cs)
   pub bytes : after ≡ over 0 (layouts cs) before
 
--- a slice, and the columns that it is to be laid into
-pub record Lays (message : List ℕ) (c : Columns) : Type 0 where
-  pub slice : is_slice (exactly_one message) ≡ true
+-- bytes that are a slice, and the columns that it is to be laid into
+pub record Lays (message : List ℕ) (m : Message) (c : Columns) : Type 0 where
+  pub read : exactly_one message ≡ Some m
+  pub slice : is_slice m ≡ true
   pub room : has_room 4096 c ≡ true
 
 -- the last slice of a filter, and the reading of it
-pub record Whole (table message : List ℕ) (size salt : ℕ) (c : Columns) (ours theirs : List ℕ) : Type 0 where
-  pub lays : Lays message c
+pub record Whole (table message : List ℕ) (s : Slice) (c : Columns) (ours theirs : List ℕ) : Type 0 where
+  pub lays : Lays message (IbfLast s) c
   pub table-good : is_table first_eight table ≡ true
-  pub range : in_range size salt ≡ true
-  pub granted : read_refusal first_eight size salt table (laid (content (exactly_one message) message) c) ours theirs ≡ None
+  pub range : in_range s.size s.salt ≡ true
+  pub granted : read_refusal first_eight s.size s.salt table (laid (content (IbfLast s) message) c) ours theirs ≡ None
   pub ours-room : 4096 ≤ length ours
   pub theirs-room : 4096 ≤ length theirs
 
 -- the last slice of a filter, and everything that follows from reading it
-pub record Reads (N : Numbers) (table message : List ℕ) (size offset salt width : ℕ) (c : Columns) (ours theirs marks inquired out : List ℕ) : Type 0 where
-  pub lays : Lays message c
+pub record Reads (N : Numbers) (table message : List ℕ) (s : Slice) (c : Columns) (ours theirs marks inquired out : List ℕ) : Type 0 where
+  pub lays : Lays message (IbfLast s) c
   pub table-good : is_table first_eight table ≡ true
-  pub range : in_range size salt ≡ true
-  pub granted : is_placed N size offset salt width ≡ true
-      → read_refusal first_eight size salt table (laid (content (exactly_one message) message) c) ours theirs ≡ None
+  pub range : in_range s.size s.salt ≡ true
+  pub granted : is_placed N s.size s.offset s.salt s.width ≡ true
+      → read_refusal first_eight s.size s.salt table (laid (content (IbfLast s) message) c) ours theirs ≡ None
   pub ours-room : 4096 ≤ length ours
   pub theirs-room : 4096 ≤ length theirs
   pub marks-room : 8192 ≤ length marks

@@ -3,12 +3,10 @@
 --   DoneSteps, ElementSteps   a DONE and an ELEMENT that the grid admits
 --   LastSteps                 an ELEMENT of an unmet demand after which our DONE goes
 --   LedgerSteps               any message that is no slice
-use Rattle.std.specs.Prelude.{◌≡◌, Bool, true, false, cond, List, ℕ, ◌+◌, ◌*◌, eqb, take}
+use Rattle.std.specs.Prelude.{◌≡◌, Bool, true, false, List, ℕ, ◌+◌, ◌*◌, eqb, take, Some}
 use Rattle.bucket.specs.Columns.{Columns}
 use Rattle.bucket.specs.Digits.{joined}
 use Rattle.bucket.specs.Lists.{elem, part}
-use Rattle.filter.specs.declared.answers.Refusal.TheVariants.{None, Malformed, OutOfTurn}
-use Rattle.filter.specs.Answers.{refusal_number}
 use Rattle.filter.specs.Sets.{is_nil}
 use Rattle.filter.specs.Table.{first_eight, hashes_of}
 use Rattle.message.specs.declared.kinds.Message.{Message}
@@ -27,21 +25,15 @@ use Rattle.session.specs.Moves.{place_of_hash}
 
 -- ---- what is asked before a message's own function
 
--- the grid's column of a message, behind all columns where the bytes are no message
+-- the grid's column of a message
 abbrev pub column_of : Message → ℕ
-column_of (Ibf size offset salt width n) = 0
-column_of (IbfLast size offset salt width n) = 1
+column_of (Ibf s) = 0
+column_of (IbfLast s) = 1
 column_of (Inquiry salt n) = 2
 column_of (Offer n) = 3
 column_of (Demand n) = 4
 column_of (Element n) = 5
 column_of Done = 6
-column_of Message.Malformed = 7
-
--- the refusal of what is no message, and of a message that the grid does not admit
-unfoldable pub screen_of : ℕ → ℕ → ℕ
-screen_of state column =
-    cond (eqb column 7) (refusal_number Malformed) (cond (entry state column) (refusal_number None) (refusal_number OutOfTurn))
 
 -- ---- DONE
 
@@ -96,4 +88,4 @@ LedgerSteps N table R M I hash message out m T r R' M' out' =
     (ours theirs : List ℕ) (cols : Columns)
     → let G = given N table R M I cols ours theirs hash message out in
     Sound G → T ≡ tally_there N table R M I → is_slice m ≡ false
-    → left r R' M' I cols ours theirs out' ≡ step_said first_eight m G
+    → left r R' M' I cols ours theirs out' ≡ step_said first_eight (Some m) G

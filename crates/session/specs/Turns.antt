@@ -12,10 +12,11 @@ use Rattle.filter.specs.declared.answers.Refusal.TheVariants.{Malformed, OutOfTu
 use Rattle.filter.specs.Answers.{refusal_number}
 use Rattle.filter.specs.Calls.{Read, unread, filled, listed_into}
 use Rattle.filter.specs.Table.{first_eight, hashes_of, ids_of, position}
+use Rattle.message.specs.declared.kinds.Message.TheVariants.{IbfLast}
+use Rattle.message.specs.declared.kinds.Slice.{Slice}
 use Rattle.message.specs.Laying.{laid}
 use Rattle.message.specs.Layout.{Content, done}
 use Rattle.message.specs.Reading.{content}
-use Rattle.message.specs.Walking.{exactly_one}
 use Rattle.message.specs.Writing.{layouts, inquiries_of, offers_of, demands_of}
 use Rattle.ledger.specs.declared.numbers.Numbers.{Numbers}
 use Rattle.ledger.specs.declared.numbers.Answer.{Answer}
@@ -120,11 +121,11 @@ abbrev pub slice_turn' : Answer → Columns → SliceTurn
 slice_turn' a c = record { answer = a; columns = c }
 
 -- c is what the message says
-unfoldable pub slice_turn : Numbers → Content → (size offset salt width : ℕ) → Columns → SliceTurn
-slice_turn N c size offset salt width cols =
+unfoldable pub slice_turn : Numbers → Content → Slice → Columns → SliceTurn
+slice_turn N c s cols =
     cond (admits_slice N 0)
-    (cond (is_placed N size offset salt width)
-    (slice_turn' (answered 0 0 0 (sliced_numbers N size salt width)) (laid c cols))
+    (cond (is_placed N s.size s.offset s.salt s.width)
+    (slice_turn' (answered 0 0 0 (sliced_numbers N s.size s.salt s.width)) (laid c cols))
     (slice_turn' (aborted (refusal_number Malformed) N) cols))
     (slice_turn' (aborted (refusal_number OutOfTurn) N) cols)
 
@@ -154,8 +155,8 @@ abbrev pub kept : Read → Read
 kept r = untouched r.columns r.ours r.theirs
 
 -- the reading of a filter that a message's slice completes
-abbrev pub whole_read : List ℕ → List ℕ → (size salt : ℕ) → Columns → List ℕ → List ℕ → Read
-whole_read table message size salt cols o th = reading_at first_eight (hashes_of table) size salt (laid (content (exactly_one message) message) cols) o th
+abbrev pub whole_read : List ℕ → List ℕ → Slice → Columns → List ℕ → List ℕ → Read
+whole_read table message s cols o th = reading_at first_eight (hashes_of table) s.size s.salt (laid (content (IbfLast s) message) cols) o th
 
 unfoldable pub read_turn : Numbers → List ℕ → (size salt : ℕ) → Read → List ℕ → List ℕ → List ℕ → LastTurn
 read_turn N table size salt r M I out =
@@ -166,10 +167,10 @@ read_turn N table size salt r M I out =
     (cond (is_complete r) (last_turn' o.answer o.marks o.inquired (kept r) o.out)
     (last_turn' (answered f (length (layouts cs)) 0 (swapped_numbers N size salt)) M I (kept r) (over 0 (layouts cs) out)))
 
-unfoldable pub last_turn : Numbers → List ℕ → Content → (size offset salt width : ℕ) → Columns → List ℕ → List ℕ → List ℕ → List ℕ → List ℕ → LastTurn
-last_turn N table c size offset salt width cols o th M I out =
+unfoldable pub last_turn : Numbers → List ℕ → Content → Slice → Columns → List ℕ → List ℕ → List ℕ → List ℕ → List ℕ → LastTurn
+last_turn N table c s cols o th M I out =
     cond (admits_slice N 1)
-    (cond (is_placed N size offset salt width)
-    (read_turn N table size salt (reading_at first_eight (hashes_of table) size salt (laid c cols) o th) M I out)
+    (cond (is_placed N s.size s.offset s.salt s.width)
+    (read_turn N table s.size s.salt (reading_at first_eight (hashes_of table) s.size s.salt (laid c cols) o th) M I out)
     (last_turn' (aborted (refusal_number Malformed) N) M I (untouched cols o th) out))
     (last_turn' (aborted (refusal_number OutOfTurn) N) M I (untouched cols o th) out)

@@ -6,14 +6,15 @@ ghost use Rattle.bucket.specs.Lists.{over};
 ghost use Rattle.filter.specs.declared.answers.Refusal.TheVariants.{Swaps, Limit};
 ghost use Rattle.filter.specs.Answers.{refusal_number, answer_of};
 ghost use Rattle.filter.specs.Table.{first_eight, hashes_of, ids_of};
+ghost use Rattle.message.specs.declared.kinds.Message.TheVariants.{Ibf, IbfLast};
 ghost use Rattle.message.specs.Reading.{content};
-ghost use Rattle.message.specs.Walking.{exactly_one};
 ghost use Rattle.message.specs.Writing.{inquiries_of, offers_of};
 ghost use Rattle.session.specs.Moves.{inserted_all};
 ghost use Rattle.session.specs.Ready.{Opens, Sent, Reads, Lays, Whole, Ended, fated, Fated};
 ghost use Rattle.session.specs.Turns.{mark_all, hashes_at, open_turn, open_turn', slice_turn, slice_turn', last_turn, last_turn', untouched, whole_read};
 
 use filter::answers::Reading;
+use message::kinds::Slice;
 use ledger::numbers::{
     Answer, FALSE_READING, FORM, LIMIT, MALFORMED, Numbers, OUT_OF_TURN, RANGE, ROOM, SWAPS,
 };
@@ -34,23 +35,21 @@ pub(crate) fn on_slice(
     ids: &mut [u64],
     hashes: &mut [u32],
     counts: &mut [i64],
-    size: u32,
-    offset: u32,
-    salt: u32,
-    width: u32,
+    slice: Slice,
 ) -> Answer
-    requires { Lays message.now (columns ids.old hashes.old counts.old) }
+    requires { Lays message.now (Ibf slice) (columns ids.old hashes.old counts.old) }
     ensures { slice_turn' result (columns ids.new hashes.new counts.new)
-        ≡ slice_turn numbers (content (exactly_one message.now) message.now) size offset salt width (columns ids.old hashes.old counts.old) }
+        ≡ slice_turn numbers (content (Ibf slice) message.now) slice (columns ids.old hashes.old counts.old) }
 {
     if !form::grid::admits_slice(numbers, form::grid::IBF) {
         return form::numbers::aborted(OUT_OF_TURN, numbers);
     }
-    if !form::grid::is_placed(numbers, size, offset, salt, width) {
+    if !form::grid::is_placed(numbers, slice.size, slice.offset, slice.salt, slice.width) {
         return form::numbers::aborted(MALFORMED, numbers);
     }
     message::laying::lay(message, ids, hashes, counts);
-    form::numbers::answered(0, 0, form::numbers::sliced(numbers, size, salt, width))
+    let next = form::numbers::sliced(numbers, slice.size, slice.salt, slice.width);
+    form::numbers::answered(0, 0, next)
 }
 
 // The slice that completes a filter.
@@ -66,19 +65,17 @@ pub(crate) fn on_last(
     theirs: &mut [u64],
     message: &[u8],
     out: &mut [u8],
-    size: u32,
-    offset: u32,
-    salt: u32,
-    width: u32,
+    slice: Slice,
 ) -> Answer
-    requires { Reads numbers table.now message.now size offset salt width (columns ids.old hashes.old counts.old) ours.old theirs.old marks.old inquired.old out.old }
+    requires { Reads numbers table.now message.now slice (columns ids.old hashes.old counts.old) ours.old theirs.old marks.old inquired.old out.old }
     ensures { last_turn' result marks.new inquired.new (untouched (columns ids.new hashes.new counts.new) ours.new theirs.new) out.new
-        ≡ last_turn numbers table.now (content (exactly_one message.now) message.now) size offset salt width (columns ids.old hashes.old counts.old) ours.old theirs.old marks.old inquired.old out.old }
+        ≡ last_turn numbers table.now (content (IbfLast slice) message.now) slice (columns ids.old hashes.old counts.old) ours.old theirs.old marks.old inquired.old out.old }
 {
     if !form::grid::admits_slice(numbers, form::grid::LAST) {
         return form::numbers::aborted(OUT_OF_TURN, numbers);
     }
-    if !form::grid::is_placed(numbers, size, offset, salt, width) {
+    let Slice { size, salt, .. } = slice;
+    if !form::grid::is_placed(numbers, size, slice.offset, salt, slice.width) {
         return form::numbers::aborted(MALFORMED, numbers);
     }
     let f = read_whole(
@@ -90,8 +87,7 @@ pub(crate) fn on_last(
         ours,
         theirs,
         message,
-        size,
-        salt,
+        slice,
     );
     if (f.refusal == SWAPS) | (f.refusal == LIMIT) {
         return form::numbers::aborted(f.refusal, numbers);
@@ -121,14 +117,14 @@ fn read_whole(
     ours: &mut [u64],
     theirs: &mut [u64],
     message: &[u8],
-    size: u32,
-    salt: u32,
+    slice: Slice,
 ) -> Fate
-    requires { Whole table.now message.now size salt (columns ids.old hashes.old counts.old) ours.old theirs.old }
-    ensures { Ended (whole_read table.now message.now size salt (columns ids.old hashes.old counts.old) ours.old theirs.old) table.now size swaps result
+    requires { Whole table.now message.now slice (columns ids.old hashes.old counts.old) ours.old theirs.old }
+    ensures { Ended (whole_read table.now message.now slice (columns ids.old hashes.old counts.old) ours.old theirs.old) table.now slice.size swaps result
         (untouched (columns ids.new hashes.new counts.new) ours.new theirs.new) }
 {
     message::laying::lay(message, ids, hashes, counts);
+    let Slice { size, salt, .. } = slice;
     let r = filter::reading::read(table, ids, hashes, counts, ours, theirs, size, salt);
     let f = fate_of(r, filter::table::count(table), swaps);
     if (f.refusal == SWAPS) | (f.refusal == LIMIT) {

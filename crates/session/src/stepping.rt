@@ -5,7 +5,7 @@ ghost use Rattle.filter.specs.Table.{first_eight};
 ghost use Rattle.message.specs.Walking.{exactly_one};
 ghost use Rattle.ledger.specs.Calls.{given, left, step_call};
 ghost use Rattle.session.specs.Judged.{InForm};
-ghost use Rattle.session.specs.Steps.{LedgerSteps, column_of, screen_of};
+ghost use Rattle.session.specs.Steps.{LedgerSteps, column_of};
 
 use form::tallying::Tally;
 use ledger::numbers::{Answer, MALFORMED, Numbers, OUT_OF_TURN};
@@ -48,27 +48,17 @@ pub fn step(
     if refusal != 0 {
         return form::numbers::refused(refusal, numbers);
     }
-    match message::reading::read(message) {
-        Message::Ibf {
-            size,
-            offset,
-            salt,
-            width,
-            count: _,
-        } => crate::filters::on_slice(
-            numbers, message, ids, hashes, counts, size, offset, salt, width,
+    let Some(m) = message::reading::read(message) else {
+        return form::numbers::aborted(MALFORMED, numbers);
+    };
+    match m {
+        Message::Ibf(slice) => {
+            crate::filters::on_slice(numbers, message, ids, hashes, counts, slice)
+        }
+        Message::IbfLast(slice) => crate::filters::on_last(
+            numbers, table, marks, inquired, ids, hashes, counts, ours, theirs, message, out, slice,
         ),
-        Message::IbfLast {
-            size,
-            offset,
-            salt,
-            width,
-            count: _,
-        } => crate::filters::on_last(
-            numbers, table, marks, inquired, ids, hashes, counts, ours, theirs, message, out, size,
-            offset, salt, width,
-        ),
-        m => on_ledger(
+        _ => on_ledger(
             numbers, table, records, marks, inquired, hash, message, out, m, tally,
         ),
     }
@@ -87,12 +77,11 @@ fn on_ledger(
     m: Message,
     tally: Tally,
 ) -> Answer
-    requires { InForm numbers table.now records.old marks.old inquired.now hash.now out.old tally × (exactly_one message.now ≡ m) }
+    requires { InForm numbers table.now records.old marks.old inquired.now hash.now out.old tally × (exactly_one message.now ≡ Some m) }
     ensures { LedgerSteps numbers table.now records.old marks.old inquired.now hash.now message.now out.old m tally result records.new marks.new out.new }
 {
-    let refusal = screened(numbers.state, m);
-    if refusal != 0 {
-        return form::numbers::aborted(refusal, numbers);
+    if !form::grid::admits(numbers.state, column(m)) {
+        return form::numbers::aborted(OUT_OF_TURN, numbers);
     }
     match m {
         Message::Inquiry { salt, count } => {
@@ -121,32 +110,9 @@ fn on_ledger(
     }
 }
 
-// The refusal of bytes that are no message, and of a message that the grid does not admit; else 0.
-fn screened(state: u32, m: Message) -> u32
-    ensures { result ≡ screen_of state (column_of m) }
-{
-    let k = column(m);
-    if k == form::grid::COLUMNS {
-        return MALFORMED;
-    }
-    if !form::grid::admits(state, k) {
-        return OUT_OF_TURN;
-    }
-    0
-}
-
-// The grid's column of a message, behind all columns where the bytes are none.
+// The grid's column of a message.
 fn column(m: Message) -> usize
     ensures { result ≡ column_of m }
 {
-    match m {
-        Message::Ibf { .. } => form::grid::IBF,
-        Message::IbfLast { .. } => form::grid::LAST,
-        Message::Inquiry { .. } => form::grid::INQUIRY,
-        Message::Offer { .. } => form::grid::OFFER,
-        Message::Demand { .. } => form::grid::DEMAND,
-        Message::Element { .. } => form::grid::ELEMENT,
-        Message::Done => form::grid::DONE,
-        Message::Malformed => form::grid::COLUMNS,
-    }
+    m.kind() as usize
 }

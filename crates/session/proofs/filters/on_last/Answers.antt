@@ -96,8 +96,8 @@ shape_of-out c = c.send_filter-sent.auto.out
 pub returns : goal.returns
 returns c = let a = c.args in
     let next = c.swapped-next in
-    let r = range-sound a.size a.salt c.requires.range in
+    let r = range-sound a.slice.size a.slice.salt c.requires.range in
     let sent = own_filter_there a.table.now next.result.size next.result.salt a.out.now c.requires.table-good
-    (subst (λ (n : Numbers). in_range n.size n.salt ≡ true) (sym next.ensures) (next_in_range a.size a.salt r.least r.salt_in)) (omega (arith, c.requires.out-room)) c.send_filter-sent.ensures in
+    (subst (λ (n : Numbers). in_range n.size n.salt ≡ true) (sym next.ensures) (next_in_range a.slice.size a.slice.salt r.least r.salt_in)) (omega (arith, c.requires.out-room)) c.send_filter-sent.ensures in
     last_swaps c.requires c.read_whole-f.ensures c.if-f.false c.if-f-2.false (test_granted c.admits_slice.ensures (ap not c.if-not-admits_slice.false)) (test_granted c.is_placed.ensures (ap not c.if-not-is_placed.false))
     next.ensures sent.0 sent.1

@@ -2,8 +2,8 @@
 use mathlib.Core.Path.{ap, ap₂, ◌∙◌}
 use Rattle.bucket.specs.Columns.{columns}
 use Rattle.bucket.proofs.TestLaws.{test_refused, test_granted}
+use Rattle.message.specs.declared.kinds.Message.TheVariants.{Ibf}
 use Rattle.message.specs.Reading.{content}
-use Rattle.message.specs.Walking.{exactly_one}
 use Rattle.ledger.specs.declared.numbers.Answer.{Answer}
 use Rattle.ledger.specs.Calls.{answered}
 use Rattle.session.specs.Turns.{slice_turn'}
@@ -14,12 +14,12 @@ use Rattle.session.proofs.filters.on_slice.Goals as goal
 pub returns-then-not-admits_slice : goal.returns-then-not-admits_slice
 returns-then-not-admits_slice c = let a = c.args in
     ap (λ (r : Answer). slice_turn' r (columns a.ids.now a.hashes.now a.counts.now)) c.aborted.ensures
-    ∙ slice_untimely a.numbers (content (exactly_one a.message.now) a.message.now) a.size a.offset a.salt a.width (columns a.ids.now a.hashes.now a.counts.now) (test_refused c.admits_slice.ensures (ap not c.if-not-admits_slice.true))
+    ∙ slice_untimely a.numbers (content (Ibf a.slice) a.message.now) a.slice (columns a.ids.now a.hashes.now a.counts.now) (test_refused c.admits_slice.ensures (ap not c.if-not-admits_slice.true))
 
 pub returns-then-not-is_placed : goal.returns-then-not-is_placed
 returns-then-not-is_placed c = let a = c.args in
     ap (λ (r : Answer). slice_turn' r (columns a.ids.now a.hashes.now a.counts.now)) c.aborted-then-not-is_placed.ensures
-    ∙ slice_misplaced a.numbers (content (exactly_one a.message.now) a.message.now) a.size a.offset a.salt a.width (columns a.ids.now a.hashes.now a.counts.now)
+    ∙ slice_misplaced a.numbers (content (Ibf a.slice) a.message.now) a.slice (columns a.ids.now a.hashes.now a.counts.now)
     (test_granted c.admits_slice.ensures (ap not c.if-not-admits_slice.false)) (test_refused c.is_placed.ensures (ap not c.if-not-is_placed.true))
 
 pub returns : goal.returns
@@ -27,5 +27,5 @@ returns c = let a = c.args in
     ap₂ slice_turn'
     (c.answered.ensures ∙ ap (answered 0 0 0) c.sliced.ensures)
     (laid_by c.requires c.lay.ensures)
-    ∙ slice-laid a.numbers (content (exactly_one a.message.now) a.message.now) a.size a.offset a.salt a.width (columns a.ids.now a.hashes.now a.counts.now)
+    ∙ slice-laid a.numbers (content (Ibf a.slice) a.message.now) a.slice (columns a.ids.now a.hashes.now a.counts.now)
     (test_granted c.admits_slice.ensures (ap not c.if-not-admits_slice.false)) (test_granted c.is_placed.ensures (ap not c.if-not-is_placed.false))
