@@ -178,7 +178,7 @@ module _ (G : Given) (s : Sound G) (t : Slice) (ids hashes counts : List ℕ) (g
   abbrev read : Read
   read = reading_at first_eight (table_of G) t.size t.salt (laid c G.columns) G.ours G.theirs
 
-  reads : Known (table_of G) size read
+  reads : Known (table_of G) t.size read
   reads = record {
     law = read-law first_eight (table_of G) t.size t.salt (laid c G.columns) G.ours G.theirs;
     clean = complete-clean first_eight (table_of G) t.size t.salt (laid c G.columns) G.ours G.theirs;
@@ -196,7 +196,7 @@ module _ (G : Given) (s : Sound G) (t : Slice) (ids hashes counts : List ℕ) (g
   unfolding act by_slice on_slice session_of
   acted = rw e
 
-  zeroes : (n : ℕ) → clears n ≡ true → refused first_eight (table_of G) n (session_in G) c ≡ cleared first_eight (table_of G) (session_in G) read size
+  zeroes : (n : ℕ) → clears n ≡ true → refused first_eight (table_of G) n (session_in G) c ≡ cleared first_eight (table_of G) (session_in G) read t.size
   unfolding session_of
   zeroes n = refusal-cleared first_eight (table_of G) n (session_in G) t.size t.offset t.salt t.width ids hashes counts
 

@@ -3,7 +3,7 @@
 --   DoneSteps, ElementSteps   a DONE and an ELEMENT that the grid admits
 --   LastSteps                 an ELEMENT of an unmet demand after which our DONE goes
 --   LedgerSteps               any message that is no slice
-use Rattle.std.specs.Prelude.{◌≡◌, Bool, true, false, List, ℕ, ◌+◌, ◌*◌, eqb, take, Some}
+use Rattle.std.specs.Prelude.{◌≡◌, Bool, true, List, ℕ, ◌+◌, ◌*◌, eqb, take, Some}
 use Rattle.bucket.specs.Columns.{Columns}
 use Rattle.bucket.specs.Digits.{joined}
 use Rattle.bucket.specs.Lists.{elem, part}
@@ -11,7 +11,6 @@ use Rattle.filter.specs.Sets.{is_nil}
 use Rattle.filter.specs.Table.{first_eight, hashes_of}
 use Rattle.message.specs.declared.kinds.Message.{Message}
 use Rattle.message.specs.declared.kinds.Message.TheVariants.{Ibf, IbfLast, Inquiry, Offer, Demand, Element, Done}
-use Rattle.message.specs.Laying.{is_slice}
 use Rattle.message.specs.Layout.{element, done}
 use Rattle.ledger.specs.declared.numbers.Numbers.{Numbers}
 use Rattle.ledger.specs.declared.numbers.Answer.{Answer}
@@ -87,5 +86,5 @@ abbrev pub LedgerSteps : Numbers → (table R M I hash message out : List ℕ) �
 LedgerSteps N table R M I hash message out m T r R' M' out' =
     (ours theirs : List ℕ) (cols : Columns)
     → let G = given N table R M I cols ours theirs hash message out in
-    Sound G → T ≡ tally_there N table R M I → is_slice m ≡ false
+    Sound G → T ≡ tally_there N table R M I
     → left r R' M' I cols ours theirs out' ≡ step_said first_eight (Some m) G

@@ -1,7 +1,8 @@
 // One step of the protocol.
-ghost use Rattle.std.specs.Prelude.{◌≡◌};
+ghost use Rattle.std.specs.Prelude.{◌≡◌, false};
 ghost use Rattle.bucket.specs.Columns.{columns};
 ghost use Rattle.filter.specs.Table.{first_eight};
+ghost use Rattle.message.specs.Laying.{is_slice};
 ghost use Rattle.message.specs.Walking.{exactly_one};
 ghost use Rattle.ledger.specs.Calls.{given, left, step_call};
 ghost use Rattle.session.specs.Judged.{InForm};
@@ -77,7 +78,7 @@ fn on_ledger(
     m: Message,
     tally: Tally,
 ) -> Answer
-    requires { InForm numbers table.now records.old marks.old inquired.now hash.now out.old tally × (exactly_one message.now ≡ Some m) }
+    requires { InForm numbers table.now records.old marks.old inquired.now hash.now out.old tally × (exactly_one message.now ≡ Some m) × (is_slice m ≡ false) }
     ensures { LedgerSteps numbers table.now records.old marks.old inquired.now hash.now message.now out.old m tally result records.new marks.new out.new }
 {
     if !form::grid::admits(numbers.state, column(m)) {
@@ -105,8 +106,7 @@ fn on_ledger(
             let unmet = tally.unmet;
             crate::ends::on_done(numbers, table, records, marks, message, out, unmet)
         }
-        // no slice comes here
-        _ => form::numbers::aborted(MALFORMED, numbers),
+        Message::Ibf(_) | Message::IbfLast(_) => unreachable!(),
     }
 }
 

@@ -25,7 +25,7 @@ returns-then-not-is_placed c = let a = c.args in
 pub returns : goal.returns
 returns c = let a = c.args in
     ap₂ slice_turn'
-    (c.answered.ensures ∙ ap (answered 0 0 0) c.sliced.ensures)
+    (c.answered.ensures ∙ ap (answered 0 0 0) c.sliced-next.ensures)
     (laid_by c.requires c.lay.ensures)
     ∙ slice-laid a.numbers (content (Ibf a.slice) a.message.now) a.slice (columns a.ids.now a.hashes.now a.counts.now)
     (test_granted c.admits_slice.ensures (ap not c.if-not-admits_slice.false)) (test_granted c.is_placed.ensures (ap not c.if-not-is_placed.false))

@@ -2,18 +2,15 @@
 -- and what the function of the message leaves is what the definition says of it. Assumes nothing.
 use mathlib.Core.Path.{◌≡◌, refl, sym, ap, ap₂, ◌∙◌, subst}
 use mathlib.Core.Bool.{Bool, false}
-use mathlib.Core.List.{[], ◌∷◌}
-use types.Run.{OneOf, miss}
-use borrow.Enum.Refused.{opened}
-use denote.Enum.Declared.{tag_of}
 use borrow.Author.Tests.{ne_eqb}
+use Rattle.std.proofs.Common.{Option, Some}
 use Rattle.bucket.specs.Columns.{columns}
 use Rattle.filter.specs.Table.{first_eight}
 use Rattle.message.specs.declared.kinds.Message.{Message}
-use Rattle.message.specs.declared.kinds.Message.TheVariants.{Ibf, IbfLast, Inquiry, Offer, Demand, Element, Done, Malformed}
+use Rattle.message.specs.declared.kinds.Slice.{Slice}
+use Rattle.message.specs.declared.kinds.Message.TheVariants.{Ibf, IbfLast, Inquiry, Offer, Demand, Element, Done}
 use Rattle.message.specs.Laying.{is_slice}
 use Rattle.message.specs.Walking.{exactly_one}
-use Rattle.message.specs.contracts.kinds.Message.{the_type}
 use Rattle.ledger.specs.declared.numbers.Answer.{Answer}
 use Rattle.ledger.specs.Calls.{Given, given, left, step_call, step_said}
 use Rattle.ledger.proofs.Sound.{Sound}
@@ -54,44 +51,55 @@ said_at c = said (given1 c) (none_first c)
 tally_at : (c : Else-refusal-ne0) → c.judge-tally.result ≡ tally_given (given1 c)
 tally_at c = c.judge-tally.ensures.1 ∙ tally_sound (given1 c) (none_first c)
 
--- the kinds behind these two, by number, are no slices
-other : (m : Message) → OneOf (2 ∷ 3 ∷ 4 ∷ 5 ∷ 6 ∷ 7 ∷ []) (tag_of the_type m) → is_slice m ≡ false
-other (Ibf size offset salt width n) h = absurd (miss (2 ∷ 3 ∷ 4 ∷ 5 ∷ 6 ∷ 7 ∷ []) 0 tt h)
-other (IbfLast size offset salt width n) h = absurd (miss (2 ∷ 3 ∷ 4 ∷ 5 ∷ 6 ∷ 7 ∷ []) 1 tt h)
-other (Inquiry salt n) h = refl
-other (Offer n) h = refl
-other (Demand n) h = refl
-other (Element n) h = refl
-other Done h = refl
-other Malformed h = refl
+-- the kinds but these two are no slices
+other : (m : Message) → ((t : Slice) → m ≡ Ibf t → ⊥) → ((t : Slice) → m ≡ IbfLast t → ⊥) → is_slice m ≡ false
+other (Ibf t) h k = absurd (h t refl)
+other (IbfLast t) h k = absurd (k t refl)
+other (Inquiry salt n) h k = refl
+other (Offer n) h k = refl
+other (Demand n) h k = refl
+other (Element n) h k = refl
+other Done h k = refl
 
 pub returns-then-refusal-ne0 : goal.returns-then-refusal-ne0
 returns-then-refusal-ne0 c = let G = given_first (goal.at.returns-then-refusal-ne0 c).After-early-refusal in
     ap (λ (a : Answer). left a G.records G.marks G.inquired G.columns G.ours G.theirs G.out) c.refused.ensures
     ∙ early-refused G (first_is (goal.at.returns-then-refusal-ne0 c).After-early-refusal) (ne_eqb _ 0 c.if-refusal-ne0.true)
 
+pub returns-in_default : goal.returns-in_default
+unfolding step_said
+returns-in_default c = let G = given1 (goal.at.returns-in_default c).Else-refusal-ne0 in
+    ap (λ (a : Answer). left a G.records G.marks G.inquired G.columns G.ours G.theirs G.out) c.aborted.ensures
+    ∙ ap (λ (m : Option Message). step_said first_eight m G) (sym c.in_default.is ∙ c.read.ensures)
+    ∙ said_at (goal.at.returns-in_default c).Else-refusal-ne0
+
 pub on_slice-requires : goal.on_slice-requires
-on_slice-requires c = slice-lays (given1 (goal.at.on_slice-requires c).Else-refusal-ne0) (sound-at (goal.at.on_slice-requires c).Else-refusal-ne0) (ap is_slice (sym c.read.ensures ∙ c.in-Ibf.is))
+on_slice-requires c = let o = (goal.at.on_slice-requires c).Else-refusal-ne0 in
+    slice-lays (given1 o) (sound-at o) (Ibf c.in-Ibf.slice) (sym c.read.ensures ∙ c.in-Some.is ∙ ap Some c.in-Ibf.is) refl
 
 pub on_last-requires : goal.on_last-requires
-on_last-requires c = last_ready (given1 (goal.at.on_last-requires c).Else-refusal-ne0) (sound-at (goal.at.on_last-requires c).Else-refusal-ne0) c.in-IbfLast.size c.in-IbfLast.offset c.in-IbfLast.salt c.in-IbfLast.width c.in-IbfLast.count (sym c.read.ensures ∙ c.in-IbfLast.is)
+on_last-requires c = let o = (goal.at.on_last-requires c).Else-refusal-ne0 in
+    last_ready (given1 o) (sound-at o) c.in-IbfLast.slice (sym c.read.ensures ∙ c.in-Some.is ∙ ap Some c.in-IbfLast.is)
 
 pub on_ledger-requires : goal.on_ledger-requires
-on_ledger-requires c = let G = given1 (goal.at.on_ledger-requires c).Else-refusal-ne0 in
-    (subst (λ (t : Tally). InForm G.numbers G.table G.records G.marks G.inquired G.hash G.out t) (sym (tally_at (goal.at.on_ledger-requires c).Else-refusal-ne0)) (in_form G (sound-at (goal.at.on_ledger-requires c).Else-refusal-ne0)), sym c.read.ensures)
+on_ledger-requires c = let o = (goal.at.on_ledger-requires c).Else-refusal-ne0 in
+    let G = given1 o in (
+      subst (λ (t : Tally). InForm G.numbers G.table G.records G.marks G.inquired G.hash G.out t) (sym (tally_at o)) (in_form G (sound-at o)),
+      sym c.read.ensures ∙ c.in-Some.is,
+      other c.in-Some.m c.in_default-m.not-Ibf c.in_default-m.not-IbfLast,
+    )
 
 pub returns-in-Ibf : goal.returns-in-Ibf
-returns-in-Ibf c = let G = given1 (goal.at.returns-in-Ibf c).Else-refusal-ne0 in
-    slice-said G (sound-at (goal.at.returns-in-Ibf c).Else-refusal-ne0) c.in-Ibf.size c.in-Ibf.offset c.in-Ibf.salt c.in-Ibf.width c.in-Ibf.count (sym c.read.ensures ∙ c.in-Ibf.is) c.on_slice.ensures
-    ∙ said_at (goal.at.returns-in-Ibf c).Else-refusal-ne0
+returns-in-Ibf c = let o = (goal.at.returns-in-Ibf c).Else-refusal-ne0 in
+    slice-said (given1 o) (sound-at o) c.in-Ibf.slice (sym c.read.ensures ∙ c.in-Some.is ∙ ap Some c.in-Ibf.is) c.on_slice.ensures ∙ said_at o
 
 pub returns-in-IbfLast : goal.returns-in-IbfLast
-returns-in-IbfLast c = let G = given1 (goal.at.returns-in-IbfLast c).Else-refusal-ne0 in
-    last_said G (sound-at (goal.at.returns-in-IbfLast c).Else-refusal-ne0) c.in-IbfLast.size c.in-IbfLast.offset c.in-IbfLast.salt c.in-IbfLast.width c.in-IbfLast.count (sym c.read.ensures ∙ c.in-IbfLast.is) c.on_last.ensures
-    ∙ said_at (goal.at.returns-in-IbfLast c).Else-refusal-ne0
+returns-in-IbfLast c = let o = (goal.at.returns-in-IbfLast c).Else-refusal-ne0 in
+    last_said (given1 o) (sound-at o) c.in-IbfLast.slice (sym c.read.ensures ∙ c.in-Some.is ∙ ap Some c.in-IbfLast.is) c.on_last.ensures ∙ said_at o
 
-pub returns-in_default : goal.returns-in_default
-returns-in_default c = let G = given1 (goal.at.returns-in_default c).Else-refusal-ne0 in
-    c.on_ledger.ensures G.ours G.theirs G.columns (sound-at (goal.at.returns-in_default c).Else-refusal-ne0) (tally_at (goal.at.returns-in_default c).Else-refusal-ne0) (other c.read.result (opened c.in_default.in_default-own.keys3))
-    ∙ ap (λ (k : Message). step_said first_eight k G) c.read.ensures
-    ∙ said_at (goal.at.returns-in_default c).Else-refusal-ne0
+pub returns-in_default-m : goal.returns-in_default-m
+returns-in_default-m c = let o = (goal.at.returns-in_default-m c).Else-refusal-ne0 in
+    let G = given1 o in
+    c.on_ledger.ensures G.ours G.theirs G.columns (sound-at o) (tally_at o)
+    ∙ ap (λ (x : Option Message). step_said first_eight x G) (sym c.in-Some.is ∙ c.read.ensures)
+    ∙ said_at o
