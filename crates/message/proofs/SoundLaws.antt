@@ -1,8 +1,7 @@
 -- What is read is what was written: bytes that are a message are the layout of what they say, which is in range. Assumes nothing.
-use mathlib.Core.Path.{◌≡◌, refl, sym, ap, ap₂, ◌∙◌}
+use mathlib.Core.Path.{◌≡◌, refl, sym, ap, ap₂, ◌∙◌, subst}
 use mathlib.Core.Bool.{true, ◌&&◌, ◌||◌}
 use mathlib.Core.List.{List, [], ◌∷◌, ◌++◌, append-nil}
-use mathlib.Core.Logic.{◌⊎◌, inl, inr}
 use Prim.Native.Nat.{ℕ, ◌+◌, ◌-◌, ◌*◌, ◌/◌, ◌%◌, ◌^◌, ◌≤◌, ◌<◌}
 use native.Mathlib.Omega.{arith}
 use borrow.Author.Tests.{leb-true, eqb-true, le-leb}
@@ -237,3 +236,7 @@ sound bs below =
     choose (Sound bs) (leb 4 (length bs) && eqb (field 2 0 bs) (length bs))
     (λ h. let h' = both _ _ h in body bs below (leb-true 4 (length bs) h'.0) (eqb-true (field 2 0 bs) (length bs) h'.1) (field 2 2 bs) refl)
     (λ h. tt)
+
+-- what is read is in its ranges
+pub read-good : (bs : List ℕ) → Below 8 bs → {m : Message} → parse bs ≡ Some m → Good (content m bs)
+read-good bs below e = (subst (Sound bs) e (sound bs below)).good

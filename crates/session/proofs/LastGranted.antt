@@ -25,7 +25,7 @@ use Rattle.message.specs.Layout.{IBF, IBF_LAST, Good, in_slice}
 use Rattle.message.specs.Reading.{content}
 use Rattle.message.specs.Walking.{exactly_one}
 use Rattle.message.proofs.ShapeLaws.{Sliced, shape, last_reaches, other_stops}
-use Rattle.message.proofs.SoundLaws.{Sound as Said, sound}
+use Rattle.message.proofs.SoundLaws.{read-good}
 use Rattle.ledger.specs.Grid.{EXPECTING_LAST, is_last}
 use Rattle.ledger.specs.Session.{placed}
 use Rattle.ledger.specs.Form.{good_numbers, idle}
@@ -40,10 +40,6 @@ use Rattle.ledger.proofs.Sound.{Sound}
 use Rattle.ledger.proofs.GivenLaws.{given-table, given-rooms}
 
 -- ---- messages
-
--- what is read is in its ranges
-pub read-good : (bs : List ℕ) → Below 8 bs → {m : Message} → exactly_one bs ≡ Some m → Good (content m bs)
-read-good bs below e = (subst (Said bs) e (sound bs below)).good
 
 is_last_lem : (b : Bool) → b ≡ true → eqb (cond b IBF_LAST IBF) IBF_LAST ≡ true
 is_last_lem b e = rw e

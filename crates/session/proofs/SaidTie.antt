@@ -13,11 +13,12 @@ use Rattle.message.specs.declared.kinds.Message.TheVariants.{Ibf, IbfLast}
 use Rattle.message.specs.declared.kinds.Slice.{Slice}
 use Rattle.message.specs.Reading.{content}
 use Rattle.message.specs.Walking.{exactly_one}
+use Rattle.message.proofs.SoundLaws.{read-good}
 use Rattle.ledger.specs.declared.numbers.Answer.{Answer}
 use Rattle.ledger.specs.Calls.{Given, left, step_said}
 use Rattle.session.specs.Turns.{SliceTurn, slice_turn, slice_turn', LastTurn, last_turn, last_turn', untouched}
 use Rattle.ledger.proofs.Sound.{Sound}
-use Rattle.session.proofs.LastGranted.{last_is_last, other_not_last, read-good}
+use Rattle.session.proofs.LastGranted.{last_is_last, other_not_last}
 use Rattle.session.proofs.SliceTie.{slice_tie}
 use Rattle.session.proofs.LastTie.{last_tie}
 

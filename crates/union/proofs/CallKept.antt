@@ -25,7 +25,7 @@ use Rattle.filter.specs.Sets.{implies}
 use Rattle.filter.specs.Table.{is_table}
 use Rattle.filter.proofs.ListLaws.{of_implies}
 use Rattle.filter.proofs.SetLaws.{clash, and_l, and_r}
-use Rattle.message.specs.Layout.{Content, slice, Good, Slice, in_slice, slice_type, slice_bytes, slice_good, IBF, IBF_LAST}
+use Rattle.message.specs.Layout.{Content, slice, Good, GoodSlice, in_slice, slice_type, slice_bytes, slice_good, IBF, IBF_LAST}
 use Rattle.message.specs.Laying.{laid}
 use Rattle.message.proofs.ReadLaws.{Ranges, slice-ranges}
 use Rattle.message.proofs.ShapeLaws.{choose}
@@ -85,7 +85,7 @@ first_of size offset salt width e part = go (eqb offset 0) refl
 abbrev Counted : Session → Type 0
 Counted u = implies («in» u EXPECTING_LAST) (are_counts 2520 u.columns.counts) ≡ true
 
-first_counted : (size offset salt width : ℕ) (ids hashes counts : List ℕ) (cs : List ℤ) → Slice size offset salt width ids hashes counts
+first_counted : (size offset salt width : ℕ) (ids hashes counts : List ℕ) (cs : List ℤ) → GoodSlice size offset salt width ids hashes counts
     → is_last size offset ≡ false → are_counts 2520 (over offset (map pos counts) cs) ≡ true
 first_counted size offset salt width ids hashes counts cs g part =
     ap₂ (λ (n m : ℕ). all_counts (take n (over m (map pos counts) cs))) (sym (length-map counts pos ∙ g.n-counts ∙ f.many)) f.start

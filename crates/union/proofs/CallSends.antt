@@ -22,7 +22,7 @@ use Rattle.bucket.proofs.OverLaws.{open_over, over-length, over-drop}
 use Rattle.filter.specs.Calls.{in_range}
 use Rattle.filter.specs.Table.{hashes_of, is_table}
 use Rattle.filter.proofs.SetLaws.{and_r, not_in_nil}
-use Rattle.message.specs.declared.reader.Whole.TheVariants.{Ends}
+use Rattle.std.proofs.Common.{Ok}
 use Rattle.message.specs.Layout.{Content}
 use Rattle.message.specs.Walking.{whole_of}
 use Rattle.message.specs.Writing.{layouts}
@@ -47,7 +47,7 @@ pub record Sends (sent due : ℕ) (before after : List ℕ) (cs : List Content) 
   pub long : length after ≡ length before
   pub bytes : take sent after ≡ layouts cs
   pub walks : Walks (take sent after) 0 cs
-  pub whole : whole_of (take sent after) ≡ Ends (length cs)
+  pub whole : whole_of (take sent after) ≡ Ok (length cs)
   pub hashes : hashes_of (part sent (64 * due) after) ≡ hs
   pub behind : drop (sent + 64 * due) after ≡ drop (sent + 64 * due) before
 

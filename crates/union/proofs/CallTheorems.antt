@@ -10,11 +10,12 @@
 --   Sends                what the outgoing buffer holds after a call (CallSends)
 --
 -- Assumes nothing.
-use mathlib.Core.Path.{◌≡◌, refl}
+use mathlib.Core.Path.{◌≡◌, refl, ap}
 use mathlib.Core.Logic.{◌≢◌}
 use mathlib.Core.Bool.{Bool, true, false, cond}
 use mathlib.Core.List.{List, []}
 use Prim.Native.Nat.{ℕ, ◌^◌, ◌<◌}
+use Rattle.std.proofs.Common.{Option, Some, None}
 use Rattle.bucket.specs.Columns.{view}
 use Rattle.bucket.specs.Lists.{elem, Distinct}
 use Rattle.filter.specs.Calls.{read_call}
@@ -22,7 +23,9 @@ use Rattle.filter.specs.Filter.{filter_rule, filter_of}
 use Rattle.filter.specs.Stopping.{differing, Clear, Exactly}
 use Rattle.filter.specs.Table.{hashes_of}
 use Rattle.filter.proofs.SetLaws.{clash}
+use Rattle.message.specs.declared.kinds.Message.{Message}
 use Rattle.message.specs.declared.kinds.Message.TheVariants.{IbfLast}
+use Rattle.message.specs.declared.kinds.Slice.{Slice}
 use Rattle.message.specs.Layout.{Content, Good, layout}
 use Rattle.message.specs.Laying.{laid}
 use Rattle.message.specs.Walking.{exactly_one}
@@ -34,7 +37,7 @@ use Rattle.union.proofs.CallGiven.{Lent, given-state}
 use Rattle.union.proofs.CallKept.{form_call}
 use Rattle.union.proofs.CallReads as Reads
 use Rattle.union.proofs.CallSends.{Sends, call_sends, start-sends}
-use Rattle.union.proofs.Called.{is_message, said_in, heard, heard-layout, call_number, call_session}
+use Rattle.union.proofs.Called.{said_in, heard_of, heard, number_of, heard-layout, call_number, call_session}
 use Rattle.union.proofs.HandedBack.{back}
 use Rattle.union.proofs.Sequences.{Calls, calls_refusal}
 use Rattle.union.proofs.Starts.{begun_by, receiver-begins, sender-begins}
@@ -43,14 +46,14 @@ use Rattle.union.proofs.Starts.{begun_by, receiver-begins, sender-begins}
 
 module _ (derive : ℕ → ℕ) (G : Given) where
   -- of bytes that are exactly one message its step is heard
-  pub message-heard : is_message (exactly_one G.message) ≡ true → heard derive G ≡ step derive (table_of G) (hash_given G) (session_of derive G) (said_in G)
+  pub message-heard : {m : Message} → exactly_one G.message ≡ Some m → heard derive G ≡ step derive (table_of G) (hash_given G) (session_of derive G) (said_in m G)
   unfolding heard
-  message-heard e = rw e
+  message-heard e = ap (λ (r : Option Message). heard_of derive r G) e
 
   -- of any other bytes nothing is, and the session is aborted
-  pub other_heard : is_message (exactly_one G.message) ≡ false → heard derive G ≡ answer (halted derive (table_of G) (session_of derive G)) []
+  pub other_heard : exactly_one G.message ≡ None → heard derive G ≡ answer (halted derive (table_of G) (session_of derive G)) []
   unfolding heard
-  other_heard e = rw e
+  other_heard e = ap (λ (r : Option Message). heard_of derive r G) e
 
   -- of the bytes of a message in range the step of that message is heard
   pub written-heard : (c : Content) → Good c → G.message ≡ layout c → heard derive G ≡ step derive (table_of G) (hash_given G) (session_of derive G) c
@@ -58,9 +61,7 @@ module _ (derive : ℕ → ℕ) (G : Given) where
 
   -- a call answers 5 where the session has ended, 4 where the bytes are no message, and else the definition's number
   pub call_refusal : good_form derive G ≡ true → has_rooms G ≡ true
-      → (step_call derive G).answer.refusal
-      ≡ cond (is_ended G.numbers.state) 5
-      (cond (is_message (exactly_one G.message)) (refusal derive (table_of G) (hash_given G) (session_of derive G) (said_in G)) 4)
+      → (step_call derive G).answer.refusal ≡ cond (is_ended G.numbers.state) 5 (number_of derive (exactly_one G.message) G)
   call_refusal = call_number derive G
 
   -- a number that is no state's, as 4 or 8, is refused with 1, and everything is as it was, the number too
@@ -115,24 +116,24 @@ module _ (derive : ℕ → ℕ) (bound : (h : ℕ) → h < 2 ^ 512 → derive h 
 
 -- an IBF LAST that is in order, given to a call with a good form and its rooms
 module _ (derive : ℕ → ℕ) (G : Given) (form : good_form derive G ≡ true) (rooms : has_rooms G ≡ true)
-    (size offset salt width n : ℕ) (e : exactly_one G.message ≡ IbfLast size offset salt width n)
-    (order : placed (session_of derive G) size offset salt width ≡ true) where
+    (t : Slice) (e : exactly_one G.message ≡ Some (IbfLast t))
+    (order : placed (session_of derive G) t.size t.offset t.salt t.width ≡ true) where
   -- it is read as filter's call reads the columns with the slice laid into them
-  pub call_reads : read_of derive (table_of G) (session_of derive G) (said_in G) size salt
-      ≡ read_call derive size salt G.table (laid (said_in G) G.columns) G.ours G.theirs
-  call_reads = Reads.call_reads derive G form rooms size offset salt width n e order
+  pub call_reads : read_of derive (table_of G) (session_of derive G) (said_in (IbfLast t) G) t.size t.salt
+      ≡ read_call derive t.size t.salt G.table (laid (said_in (IbfLast t) G) G.columns) G.ours G.theirs
+  call_reads = Reads.call_reads derive G form rooms t e order
 
   -- a complete reading is trusted: the received filter is that of our IDs less those listed as ours, which are of them, plus those listed as theirs, and
   -- what it is made from is a set
-  pub call_trusted : let r = read_of derive (table_of G) (session_of derive G) (said_in G) size salt in
-      is_complete r ≡ true → Trusted derive G.table (session_of derive G) (said_in G) size salt r
-  call_trusted = Reads.call_trusted derive G form rooms size offset salt width n e order
+  pub call_trusted : let r = read_of derive (table_of G) (session_of derive G) (said_in (IbfLast t) G) t.size t.salt in
+      is_complete r ≡ true → Trusted derive G.table (session_of derive G) (said_in (IbfLast t) G) t.size t.salt r
+  call_trusted = Reads.call_trusted derive G form rooms t e order
 
   -- a filter made by the rules from IDs of the far end is read exactly, where in no part of the difference a bucket shared by several looks pure: the true
   -- difference less its largest stopping set, complete exactly if there is none
   pub call_exact : ((h : ℕ) → h < 2 ^ 512 → derive h < 2 ^ 64) → (far : List ℕ) → Distinct far → ((a : ℕ) → elem a far ≡ true → a < 2 ^ 64)
-      → ((i : ℕ) → i < size → view (laid (said_in G) G.columns) i ≡ filter_of (filter_rule size salt) far i)
-      → Clear (filter_rule size salt) (differing (ids_of derive (table_of G)) far)
-      → let r = read_of derive (table_of G) (session_of derive G) (said_in G) size salt in
-      (r.answer.refusal ≡ 0) × Exactly (filter_rule size salt) (ids_of derive (table_of G)) far (ours_in r) (theirs_in r) (is_complete r)
-  call_exact = Reads.call_exact derive G form rooms size offset salt width n e order
+      → ((i : ℕ) → i < t.size → view (laid (said_in (IbfLast t) G) G.columns) i ≡ filter_of (filter_rule t.size t.salt) far i)
+      → Clear (filter_rule t.size t.salt) (differing (ids_of derive (table_of G)) far)
+      → let r = read_of derive (table_of G) (session_of derive G) (said_in (IbfLast t) G) t.size t.salt in
+      (r.answer.refusal ≡ 0) × Exactly (filter_rule t.size t.salt) (ids_of derive (table_of G)) far (ours_in r) (theirs_in r) (is_complete r)
+  call_exact = Reads.call_exact derive G form rooms t e order

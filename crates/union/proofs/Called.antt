@@ -18,19 +18,17 @@ use Prim.Native.Nat.{ℕ, ◌^◌, ◌<◌}
 use lib.Dec.{eqb}
 use lib.ListN.{length}
 use lib.Pow.{pow_pos}
+use Rattle.std.proofs.Common.{Option, Some, None}
 use Rattle.bucket.specs.Digits.{groups, packed, Below}
 use Rattle.bucket.specs.Lists.{over}
 use Rattle.bucket.proofs.OverLaws.{over-nil}
-use Rattle.filter.proofs.SetLaws.{clash}
 use Rattle.message.specs.declared.kinds.Message.{Message}
-use Rattle.message.specs.declared.kinds.Message.TheVariants.{Ibf, IbfLast, Inquiry, Offer, Demand, Element, Done, Malformed}
 use Rattle.message.specs.Layout.{Content, slice, inquiry, offer, demand, element, done, Good, layout}
 use Rattle.message.specs.Reading.{content, head}
 use Rattle.message.specs.Walking.{exactly_one}
 use Rattle.message.specs.Writing.{layouts}
-use Rattle.message.proofs.CompleteLaws.{complete, head_never}
+use Rattle.message.proofs.CompleteLaws.{complete}
 use Rattle.message.proofs.SoundLaws.{Sound, sound}
-use Rattle.message.proofs.ShapeLaws.{choose}
 use Rattle.ledger.specs.Grid.{FINISHED, ABORTED, is_ended}
 use Rattle.ledger.specs.Session.{Session, Outcome, Change, answer, sliced, acts, stopped, refusal, swapped, decoded, change, act, halted, refused, step}
 use Rattle.ledger.specs.Calls.{Given, Left, good_form, has_ledger_room, has_rooms, early, table_of, hash_given, session_of, unchanged, ended, went, step_said, step_on, step_call}
@@ -46,64 +44,40 @@ use Rattle.union.proofs.SentLaws.{Narrow, narrow_kept}
 
 -- ---- what is heard
 
-abbrev pub is_message : Message → Bool
-is_message (Ibf size offset salt width n) = true
-is_message (IbfLast size offset salt width n) = true
-is_message (Inquiry salt n) = true
-is_message (Offer n) = true
-is_message (Demand n) = true
-is_message (Element n) = true
-is_message Done = true
-is_message Malformed = false
+-- what the bytes say, read as m
+abbrev pub said_in : Message → Given → Content
+said_in m G = content m G.message
 
--- what the bytes say
-abbrev pub said_in : Given → Content
-said_in G = content (exactly_one G.message) G.message
+-- of what is read of the bytes
+abbrev pub heard_of : (ℕ → ℕ) → Option Message → Given → Outcome
+heard_of derive (Some m) G = step derive (table_of G) (hash_given G) (session_of derive G) (said_in m G)
+heard_of derive None G = answer (halted derive (table_of G) (session_of derive G)) []
 
 unfoldable pub heard : (ℕ → ℕ) → Given → Outcome
-heard derive G =
-    let s = session_of derive G in
-    cond (is_message (exactly_one G.message)) (step derive (table_of G) (hash_given G) s (said_in G)) (answer (halted derive (table_of G) s) [])
+heard derive G = heard_of derive (exactly_one G.message) G
 
--- what is read is in its ranges
-pub read-good : (bs : List ℕ) → Below 8 bs → is_message (exactly_one bs) ≡ true → Good (content (exactly_one bs) bs)
-read-good bs below e = go (sound bs below)
-  where
-    go : Sound bs (exactly_one bs) → Good (content (exactly_one bs) bs)
-    go (inl k) = absurd (clash e (ap is_message k))
-    go (inr k) = k.good
+-- its number
+abbrev pub number_of : (ℕ → ℕ) → Option Message → Given → ℕ
+number_of derive (Some m) G = refusal derive (table_of G) (hash_given G) (session_of derive G) (said_in m G)
+number_of derive None G = 4
 
 -- what holds of every step and of an abort holds of what is heard
 pub heard_either : (derive : ℕ → ℕ) (G : Given) → Below 8 G.message → (P : Outcome → Type 0)
     → ((c : Content) → Good c → P (step derive (table_of G) (hash_given G) (session_of derive G) c))
     → P (answer (halted derive (table_of G) (session_of derive G)) []) → P (heard derive G)
 unfolding heard
-heard_either derive G bytes P x y =
-    choose P (is_message (exactly_one G.message)) (λ e. x (said_in G) (read-good G.message bytes e)) (λ e. y)
-
-is_message_lem : (m : Message) → (m ≡ Malformed → ⊥) → is_message m ≡ true
-is_message_lem (Ibf size offset salt width n) real = refl
-is_message_lem (IbfLast size offset salt width n) real = refl
-is_message_lem (Inquiry salt n) real = refl
-is_message_lem (Offer n) real = refl
-is_message_lem (Demand n) real = refl
-is_message_lem (Element n) real = refl
-is_message_lem Done real = refl
-is_message_lem Malformed real = absurd (real refl)
+heard_either derive G bytes P x y = go (exactly_one G.message) (sound G.message bytes)
+  where
+    go : (r : Option Message) → Sound G.message r → P (heard_of derive r G)
+    go (Some m) k = x (said_in m G) k.good
+    go None k = y
 
 pub heard-layout : (derive : ℕ → ℕ) (G : Given) (c : Content) → Good c → G.message ≡ layout c
     → heard derive G ≡ step derive (table_of G) (hash_given G) (session_of derive G) c
 unfolding heard
-heard-layout derive G c g m = rw (there) (ap (step derive (table_of G) (hash_given G) (session_of derive G)) says)
-  where
-    is : exactly_one G.message ≡ head c
-    is = ap exactly_one m ∙ (complete c g).read
-
-    there : is_message (exactly_one G.message) ≡ true
-    there = ap is_message is ∙ is_message_lem (head c) (head_never c)
-
-    says : said_in G ≡ c
-    says = ap₂ (λ (x : Message) (bs : List ℕ). content x bs) is m ∙ (complete c g).said
+heard-layout derive G c g m =
+    ap (λ (r : Option Message). heard_of derive r G) (ap exactly_one m ∙ (complete c g).read)
+    ∙ ap (step derive (table_of G) (hash_given G) (session_of derive G)) (ap (content (head c)) m ∙ (complete c g).said)
 
 -- ---- what a call leaves
 
@@ -128,17 +102,6 @@ module _ (derive : ℕ → ℕ) (G : Given) where
   pub data Leaves (l : Left) (o : Outcome) : Type 0 where
     acted : (c : Content) → Good c → acts (number c) ≡ true → l ≡ went derive (number c) o G → o ≡ act derive t (hash_given G) s c → Leaves l o
     stopped_by : (n : ℕ) (u : Session) → Ended s u → l ≡ ended n u G → o ≡ answer u [] → Leaves l o
-
-  pub on_said : (m : Message) → step_said derive m G ≡ cond (is_message m) (step_on derive (content m G.message) G) (unchanged 4 7 G)
-  unfolding step_said
-  on_said (Ibf size offset salt width n) = refl
-  on_said (IbfLast size offset salt width n) = refl
-  on_said (Inquiry salt n) = refl
-  on_said (Offer n) = refl
-  on_said (Demand n) = refl
-  on_said (Element n) = refl
-  on_said Done = refl
-  on_said Malformed = refl
 
   -- the number that it answers
   pub on_number : (c : Content) → (step_on derive c G).answer.refusal ≡ number c
@@ -172,50 +135,43 @@ module _ (derive : ℕ → ℕ) (G : Given) where
   -- a session that has ended
   ended-heard : is_ended s.state ≡ true → heard derive G ≡ answer (halted derive t s) []
   unfolding heard step
-  ended-heard e = go (is_message (exactly_one G.message))
+  ended-heard e = go (exactly_one G.message)
     where
-      five : number (said_in G) ≡ 5
-      five = (ended_stays derive t (hash_given G) s (said_in G) e).0
-
-      go : (b : Bool) → cond b (step derive t (hash_given G) s (said_in G)) (answer (halted derive t s) []) ≡ answer (halted derive t s) []
-      go true = rw five (ap (λ (u : Session). answer u []) (refusal_buffers derive t 5 s (said_in G) refl))
-      go false = refl
+      go : (r : Option Message) → heard_of derive r G ≡ answer (halted derive t s) []
+      go (Some m) =
+          let five : number (said_in m G) ≡ 5 = (ended_stays derive t (hash_given G) s (said_in m G) e).0 in
+          rw five (ap (λ (u : Session). answer u []) (refusal_buffers derive t 5 s (said_in m G) refl))
+      go None = refl
 
   -- 5 where the session has ended, 4 where the bytes are no message, and else the definition's
   pub call_number : good_form derive G ≡ true → has_rooms G ≡ true
-      → (step_call derive G).answer.refusal ≡ cond (is_ended G.numbers.state) 5 (cond (is_message (exactly_one G.message)) (number (said_in G)) 4)
-  unfolding step_call early
+      → (step_call derive G).answer.refusal ≡ cond (is_ended G.numbers.state) 5 (number_of derive (exactly_one G.message) G)
+  unfolding step_call step_said early
   call_number form rooms = go (is_ended G.numbers.state) refl
     where
-      said : (b : Bool) → (cond b (step_on derive (said_in G) G) (unchanged 4 7 G)).answer.refusal ≡ cond b (number (said_in G)) 4
-      said true = on_number (said_in G)
-      said false = refl
+      said : (r : Option Message) → (step_said derive r G).answer.refusal ≡ number_of derive r G
+      said (Some m) = on_number (said_in m G)
+      said None = refl
 
       go : (b : Bool) → is_ended G.numbers.state ≡ b
-          → (step_call derive G).answer.refusal ≡ cond (is_ended G.numbers.state) 5 (cond (is_message (exactly_one G.message)) (number (said_in G)) 4)
+          → (step_call derive G).answer.refusal ≡ cond (is_ended G.numbers.state) 5 (number_of derive (exactly_one G.message) G)
       go true e = rw (form, rooms, e)
-      go false e =
-          rw (form, rooms, e)
-          (ap (λ (l : Left). l.answer.refusal) (on_said (exactly_one G.message)) ∙ said (is_message (exactly_one G.message)))
+      go false e = rw (form, rooms, e) (said (exactly_one G.message))
 
   module _ (form : good_form derive G ≡ true) (rooms : has_rooms G ≡ true) (bytes : Below 8 G.message) where
     pub call_leaves : Leaves (step_call derive G) (heard derive G)
-    unfolding step_call early heard session_of
+    unfolding step_call step_said early heard session_of
     call_leaves = go (is_ended G.numbers.state) refl
       where
-        said : is_ended G.numbers.state ≡ false → (b : Bool) → is_message (exactly_one G.message) ≡ b
-            → Leaves (cond b (step_on derive (said_in G) G) (unchanged 4 7 G)) (cond b (step derive t (hash_given G) s (said_in G)) (answer (halted derive t s) []))
-        said going true e = on_leaves (said_in G) (read-good G.message bytes e)
-        said going false e = stopped_by 4 (halted derive t s) halts (unchanged_halts 4 7 (going-stopped G.numbers.state going)) refl
+        said : is_ended G.numbers.state ≡ false → (r : Option Message) → Sound G.message r → Leaves (step_said derive r G) (heard_of derive r G)
+        said going (Some m) k = on_leaves (said_in m G) k.good
+        said going None k = stopped_by 4 (halted derive t s) halts (unchanged_halts 4 7 (going-stopped G.numbers.state going)) refl
 
         go : (b : Bool) → is_ended G.numbers.state ≡ b → Leaves (step_call derive G) (heard derive G)
         go true e =
             rw (form, rooms, e)
             (stopped_by 5 (halted derive t s) halts (unchanged_halts 5 G.numbers.state (ended-stopped G.numbers.state e)) (ended-heard e))
-        go false e =
-            rw (form, rooms, e)
-            (subst (λ (l : Left). Leaves l (heard derive G)) (sym (on_said (exactly_one G.message)))
-            (said e (is_message (exactly_one G.message)) refl))
+        go false e = rw (form, rooms, e) (said e (exactly_one G.message) (sound G.message bytes))
 
 -- ---- the session after it
 

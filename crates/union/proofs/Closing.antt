@@ -17,6 +17,7 @@ use Prim.Native.Nat.{ℕ, ◌^◌, ◌<◌}
 use lib.Dec.{eqb}
 use lib.ListN.{get_or}
 use borrow.Author.Tests.{ne_eqb, eqb-true}
+use Rattle.std.proofs.Common.{Option, Some, None}
 use Rattle.bucket.specs.Digits.{Below}
 use Rattle.bucket.specs.Lists.{elem}
 use Rattle.filter.specs.declared.answers.Refusal.{Refusal}
@@ -25,17 +26,18 @@ use Rattle.filter.specs.Answers.{refusal_number, first_of}
 use Rattle.filter.specs.Sets.{is_nil, all, implies}
 use Rattle.filter.proofs.ListLaws.{all_in, implies_of}
 use Rattle.filter.proofs.SetLaws.{clash, or_cases, and_l}
+use Rattle.message.specs.declared.kinds.Message.{Message}
 use Rattle.message.specs.Layout.{Content, slice, inquiry, offer, demand, element, done}
+use Rattle.message.specs.Reading.{content}
 use Rattle.message.specs.Walking.{exactly_one}
 use Rattle.ledger.specs.Grid.{ACTIVE, PASSIVE, WAITING, FINISHED, ABORTED, states, is_state, is_ended, kind_of, place_in, entry}
 use Rattle.ledger.specs.Session.{Ledger, Session, Change, Outcome, «in», unmet, gaining, changed, answer, by_slice, admitted, acts, last_one, waits, agrees, tests, refusal, on_slice, change, act, refused, step}
-use Rattle.ledger.specs.Calls.{Given, Left, given, in_state, table_of, hash_given, session_of, good_form, has_rooms, early, unchanged, ended, went, step_on, step_call}
+use Rattle.ledger.specs.Calls.{Given, Left, given, in_state, table_of, hash_given, session_of, good_form, has_rooms, early, unchanged, ended, went, step_on, step_said, step_call}
 use Rattle.ledger.proofs.BookLaws.{Form}
 use Rattle.ledger.proofs.FaultLaws.{Passed, passed}
 use Rattle.ledger.proofs.GridLaws.{admitted_other}
 use Rattle.ledger.proofs.Lawful.{none-unmet}
 use Rattle.union.proofs.CallGiven.{given-state, given-form, rooms_of_lem}
-use Rattle.union.proofs.Called.{is_message, said_in, on_said}
 use Rattle.union.proofs.HandedBack.{back}
 use Rattle.union.proofs.Sequences.{CallsOf, Calls, receiver, sender, next, standing}
 
@@ -116,12 +118,14 @@ module _ (derive : ℕ → ℕ) where
       let n = old_refusal derive t (hash_given G) s c in
       cond (acts n) (went derive n (old_act derive t (hash_given G) s c) G) (ended n (refused derive t n s c) G)
 
+  abbrev pub old_said : Option Message → Given → Left
+  old_said (Some m) G = old_on (content m G.message) G
+  old_said None G = unchanged (refusal_number Malformed) ABORTED G
+
   unfoldable pub old_call : Given → Left
   old_call G =
       let n = refusal_number (old_early G) in
-      cond (eqb n 0)
-      (cond (is_message (exactly_one G.message)) (old_on (said_in G) G) (unchanged (refusal_number Malformed) ABORTED G))
-      (unchanged n G.numbers.state G)
+      cond (eqb n 0) (old_said (exactly_one G.message) G) (unchanged n G.numbers.state G)
 
 -- ---- on a session in form its step is ledger's
 
@@ -213,15 +217,17 @@ module _ (derive : ℕ → ℕ) where
 
   -- On every good form, with its rooms or without, for any bytes as message: answer, state, every slice and the bytes sent are those of ledger's call.
   pub call_same : (G : Given) → good_form derive G ≡ true → old_call derive G ≡ step_call derive G
-  unfolding old_call old_early old_form step_call early session_of
+  unfolding old_call old_early old_form step_call step_said early session_of
   call_same G form =
       let n : ℕ = refusal_number (early derive G) in
       rw (ne_eqb G.numbers.state CLOSING (not_closing G.numbers.state (given-state derive G form)))
       (where_so (eqb n 0) (unchanged n G.numbers.state G)
-      (λ e. where_so (is_message (exactly_one G.message)) (unchanged (refusal_number Malformed) ABORTED G)
-      (λ m. on_same G (said_in G) (given-form derive G form (rooms_of_lem G (rooms (has_rooms G) refl e)).ledger))
-      ∙ sym (on_said derive G (exactly_one G.message))))
+      (λ e. said (given-form derive G form (rooms_of_lem G (rooms (has_rooms G) refl e)).ledger) (exactly_one G.message)))
     where
+      said : Form derive (table_of G) (session_of derive G) → (r : Option Message) → old_said derive r G ≡ step_said derive r G
+      said f (Some m) = on_same G (content m G.message) f
+      said f None = refl
+
       -- without its rooms both are refused with 2
       rooms : (b : Bool) → has_rooms G ≡ b → eqb (refusal_number (early derive G)) 0 ≡ true → b ≡ true
       rooms true r e = refl

@@ -15,11 +15,13 @@ use mathlib.Core.List.{List, [], ◌∷◌}
 use Prim.Native.Nat.{ℕ, ◌^◌, ◌<◌}
 use lib.Dec.{eqb}
 use borrow.Author.Tests.{eq-eqb}
+use Rattle.std.proofs.Common.{Option, Some, None}
 use Rattle.bucket.specs.Digits.{Below}
 use Rattle.filter.specs.declared.answers.Refusal.{Refusal}
 use Rattle.filter.specs.declared.answers.Refusal.TheVariants.{OutOfTurn}
 use Rattle.filter.specs.Answers.{refusal_number, first_of}
 use Rattle.filter.proofs.SetLaws.{clash}
+use Rattle.message.specs.declared.kinds.Message.{Message}
 use Rattle.message.specs.Layout.{Content, slice, inquiry, offer, demand, element, done}
 use Rattle.message.specs.Walking.{exactly_one}
 use Rattle.ledger.specs.Grid.{is_ended}
@@ -27,7 +29,7 @@ use Rattle.ledger.specs.Session.{Session, admitted, tests, refusal}
 use Rattle.ledger.specs.Calls.{Given, Left, good_form, has_rooms, early, table_of, hash_given, session_of, step_call, start_receiver, start_sender}
 use Rattle.union.proofs.CallGiven.{Lent}
 use Rattle.union.proofs.CallKept.{form_call, ids_call}
-use Rattle.union.proofs.Called.{is_message, said_in, call_number}
+use Rattle.union.proofs.Called.{said_in, number_of, call_number}
 use Rattle.union.proofs.HandedBack.{back}
 use Rattle.union.proofs.Starts.{begun_by, receiver-begins, sender-begins}
 
@@ -61,17 +63,14 @@ module _ (derive : ℕ → ℕ) where
   unfolding step_call early
   form-refusal G form one = clash (eq-eqb (step_call derive G).answer.refusal 1 one) (go (has_rooms G) refl)
     where
-      number : ℕ
-      number = refusal derive (table_of G) (hash_given G) (session_of derive G) (said_in G)
-
-      known : (x y : Bool) → eqb (cond x 5 (cond y number 4)) 1 ≡ false
-      known true y = refl
-      known false true = number-lacks (table_of G) (hash_given G) (session_of derive G) (said_in G)
-      known false false = refl
+      known : (x : Bool) (r : Option Message) → eqb (cond x 5 (number_of derive r G)) 1 ≡ false
+      known true r = refl
+      known false (Some m) = number-lacks (table_of G) (hash_given G) (session_of derive G) (said_in m G)
+      known false None = refl
 
       go : (x : Bool) → has_rooms G ≡ x → eqb (step_call derive G).answer.refusal 1 ≡ false
       go false e = rw (form, e)
-      go true e = ap (λ (n : ℕ). eqb n 1) (call_number derive G form e) ∙ known (is_ended G.numbers.state) (is_message (exactly_one G.message))
+      go true e = ap (λ (n : ℕ). eqb n 1) (call_number derive G form e) ∙ known (is_ended G.numbers.state) (exactly_one G.message)
 
 -- ---- sequences
 
