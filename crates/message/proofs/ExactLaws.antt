@@ -19,7 +19,7 @@ use Rattle.message.specs.declared.kinds.Message.{Message}
 use Rattle.message.specs.Layout.{Content, slice, inquiry, offer, demand, element, done, Good, layout, framed}
 use Rattle.message.specs.Reading.{parse, content, head}
 use Rattle.message.proofs.SoundLaws.{Told, Sound, sound}
-use Rattle.message.proofs.CompleteLaws.{Kept, complete, not_malformed}
+use Rattle.message.proofs.CompleteLaws.{complete, not_malformed}
 
 pub record LayoutOf (bs : List ℕ) (m : Message) : Type 0 where
   pub said : Content

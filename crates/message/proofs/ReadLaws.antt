@@ -1,21 +1,19 @@
 -- The definition of reading, along the ways of the code: what `parse` and `parse_slice` are where their tests are known, and the ranges of a slice that fits.
 -- Assumes nothing.
 use mathlib.Core.Path.{◌≡◌}
-use mathlib.Core.Bool.{Bool, true, false, ◌&&◌, ◌||◌, and-eq-true_iff}
+use mathlib.Core.Bool.{Bool, true, ◌&&◌, ◌||◌, and-eq-true_iff}
 use mathlib.Core.List.{List}
-use Prim.Native.Nat.{ℕ, ◌+◌, ◌-◌, ◌*◌, ◌/◌, ◌%◌, ◌^◌, ◌≤◌, ◌<◌}
+use Prim.Native.Nat.{ℕ, ◌+◌, ◌*◌, ◌^◌, ◌≤◌, ◌<◌}
 use native.Mathlib.Omega.{arith}
 use borrow.Author.Tests.{le-leb, lt-leb, eq-eqb, ne_eqb, ltb-true, leb-true, eqb-true}
-use lib.Dec.{eqb, ltb}
+use lib.Dec.{eqb}
 use lib.ListN.{length, drop, length-take}
 use lib.Pow.{pow_mono}
-use Rattle.std.proofs.Common.{Some, None}
+use Rattle.std.proofs.Common.{None}
 use Rattle.bucket.specs.Lists.{part}
-use Rattle.bucket.specs.Packing.{is_bare}
 use Rattle.bucket.proofs.DigitLaws.{joined_lt}
-use Rattle.message.specs.declared.kinds.Message.TheVariants.{Inquiry}
 use Rattle.message.specs.Layout.{IBF, IBF_LAST, in_slice, slice_type, slice_bytes}
-use Rattle.message.specs.Reading.{field, slice_fits, slice_head, slice_of, parse, parse_body, parse_inquiry, parse_slice}
+use Rattle.message.specs.Reading.{field, slice_fits, slice_of, parse, parse_body, parse_slice}
 
 pub both : (a b : Bool) → (a && b) ≡ true → (a ≡ true) × (b ≡ true)
 both a b h = (and-eq-true_iff a b).0 h
@@ -32,16 +30,6 @@ other_size bs h l = rw (le-leb 4 (length bs) l, ne_eqb (field 2 0 bs) (length bs
 pub typed : (bs : List ℕ) (t : ℕ) → 4 ≤ length bs → field 2 0 bs ≡ length bs → t ≡ field 2 2 bs → parse_body t bs ≡ parse bs
 unfolding parse
 typed bs t l h e = rw (le-leb 4 (length bs) l, eq-eqb (field 2 0 bs) (length bs) h, e)
-
--- an INQUIRY of whole IDs with a salt in range, and any other
-module _ (bs : List ℕ) {salt : ℕ} (l : 16 ≤ length bs) (e : salt ≡ field 4 4 bs) where
-  pub inquiry-whole : (eqb (length bs % 8) 0 && ltb salt 64) ≡ true → Some (Inquiry salt ((length bs - 8) / 8)) ≡ parse_inquiry bs
-  unfolding parse_inquiry
-  inquiry-whole h = rw (le-leb 16 (length bs) l, ← e, h)
-
-  pub inquiry_torn : (eqb (length bs % 8) 0 && ltb salt 64) ≡ false → None ≡ parse_inquiry bs
-  unfolding parse_inquiry
-  inquiry_torn h = rw (le-leb 16 (length bs) l, ← e, h)
 
 -- the type of a slice of n buckets
 module _ (size offset : ℕ) {n : ℕ} (e : n ≡ in_slice size offset) where
@@ -85,10 +73,6 @@ slice-ranges type size offset salt width len h =
       all = eqb-true len (slice_bytes width (in_slice size offset)) h8.1;
     }
 
-pub slice-short : (t : ℕ) (bs : List ℕ) → length bs < 16 → None ≡ parse_slice t bs
-unfolding parse_slice
-slice-short t bs h = rw (lt-leb 16 (length bs) h)
-
 pub slice_fields : (t : ℕ) (bs : List ℕ) {size offset salt width : ℕ} → 16 ≤ length bs
     → size ≡ field 4 4 bs → offset ≡ field 4 8 bs → salt ≡ field 2 12 bs → width ≡ field 2 14 bs → slice_of t size offset salt width bs ≡ parse_slice t bs
 unfolding parse_slice
@@ -99,16 +83,3 @@ pub field_lt : (k at : ℕ) (bs : List ℕ) → field k at bs < 2 ^ (8 * k)
 field_lt k at bs =
     let few = pow_mono {i = 8 * length (part at k bs)} {j = 8 * k} (omega (arith, length-take k (drop at bs))) in
     omega (arith, joined_lt 8 (part at k bs))
-
--- a slice whose numbers do not fit, whose spare bits are not zero, and one that is good
-module _ (t size offset salt width : ℕ) (bs : List ℕ) where
-  pub slice_unfit : slice_fits t size offset salt width (length bs) ≡ false → None ≡ slice_of t size offset salt width bs
-  slice_unfit h = rw h
-
-  pub slice-spare : (n : ℕ) → n ≡ in_slice size offset → slice_fits t size offset salt width (length bs) ≡ true → is_bare width n (16 + 12 * n) bs ≡ false
-      → None ≡ slice_of t size offset salt width bs
-  slice-spare n e h z = rw (h, ← e, z)
-
-  pub slice-good : (n : ℕ) → n ≡ in_slice size offset → slice_fits t size offset salt width (length bs) ≡ true → is_bare width n (16 + 12 * n) bs ≡ true
-      → Some (slice_head t size offset salt width) ≡ slice_of t size offset salt width bs
-  slice-good n e h z = rw (h, rw e at z)

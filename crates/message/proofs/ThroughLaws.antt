@@ -16,7 +16,7 @@ use native.Mathlib.Nat.{add-zero, zero-add, suc-add}
 use native.Mathlib.Omega.{arith}
 use lib.ListN.{length, take, drop, length-take, length-drop, length-append}
 use lib.Seq.{take_all, take-length, take-add, drop-drop}
-use Rattle.std.proofs.Common.{Result, Ok, Err, Some, None}
+use Rattle.std.proofs.Common.{Ok, Err, Some, None}
 use Rattle.bucket.specs.Digits.{joined, Below}
 use Rattle.bucket.specs.Lists.{part}
 use Rattle.bucket.proofs.OverLaws.{part-part}

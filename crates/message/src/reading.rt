@@ -74,15 +74,15 @@ fn slice_fits(kind: Kind, slice: Slice, len: usize) -> bool
         width,
         count,
     } = slice;
-    (37 <= size)
-        & (size <= 4096)
-        & ((offset == 0) | (offset == crate::slices::SECOND))
-        & (offset < size)
-        & (salt < 64)
-        & (1 <= width)
-        & (width <= 32)
-        & (u32::from(kind) == crate::slices::slice_type(size, offset))
-        & (len == crate::slices::slice_bytes(width, count))
+    37 <= size
+        && size <= 4096
+        && (offset == 0 || offset == crate::slices::SECOND)
+        && offset < size
+        && salt < 64
+        && 1 <= width
+        && width <= 32
+        && u32::from(kind) == crate::slices::slice_type(size, offset)
+        && len == crate::slices::slice_bytes(width, count)
 }
 
 #[tactic(auto, unfolding(crate::specs::Reading::parse_inquiry))]
@@ -93,7 +93,7 @@ fn read_inquiry(s: &[u8]) -> Option<Message>
         return None;
     }
     let salt = crate::fields::word_at(s, 4, 4);
-    if (s.len() % 8 == 0) & (salt < 64) {
+    if s.len() % 8 == 0 && salt < 64 {
         return Some(Message::Inquiry {
             salt,
             count: (s.len() - 8) / 8,
@@ -105,5 +105,5 @@ fn read_inquiry(s: &[u8]) -> Option<Message>
 fn hashes_fit(len: usize) -> bool
     ensures { result ≡ hashes_fit len }
 {
-    (68 <= len) & (len % 64 == 4)
+    68 <= len && len % 64 == 4
 }
