@@ -1,6 +1,6 @@
 -- What the two messages of slices may count on where a step is sound: what is read is good and reaches the end or not, and the last slice is
 -- read. Assumes nothing.
-use mathlib.Core.Path.{◌≡◌, refl, sym, ap, subst, ◌∙◌}
+use mathlib.Core.Path.{◌≡◌, refl, sym, ap, ◌∙◌}
 use mathlib.Core.Bool.{Bool, true, false, ◌&&◌, cond}
 use mathlib.Core.List.{List}
 use Prim.Native.Nat.{ℕ, ◌+◌, ◌*◌}
@@ -9,7 +9,7 @@ use lib.Dec.{eqb, leb}
 use lib.ListN.{length}
 use borrow.Author.Tests.{leb-true, le-leb, lt-ltb, eq-eqb, ne_eqb}
 use Rattle.std.proofs.Common.{Some}
-use Rattle.bucket.specs.Digits.{unpacked, Below}
+use Rattle.bucket.specs.Digits.{unpacked}
 use Rattle.bucket.specs.Lists.{part}
 use Rattle.bucket.specs.Packing.{counters_at}
 use Rattle.bucket.proofs.TestLaws.{and_holds}
@@ -21,7 +21,7 @@ use Rattle.message.specs.declared.kinds.Message.{Message}
 use Rattle.message.specs.declared.kinds.Message.TheVariants.{Ibf, IbfLast}
 use Rattle.message.specs.declared.kinds.Slice.{Slice}
 use Rattle.message.specs.Laying.{laid, is_slice}
-use Rattle.message.specs.Layout.{IBF, IBF_LAST, Good, in_slice}
+use Rattle.message.specs.Layout.{IBF, IBF_LAST, in_slice}
 use Rattle.message.specs.Reading.{content}
 use Rattle.message.specs.Walking.{exactly_one}
 use Rattle.message.proofs.ShapeLaws.{Sliced, shape, last_reaches, other_stops}

@@ -1,6 +1,6 @@
 -- A message that the grid does not admit is refused as the step refuses it. Assumes nothing.
 use mathlib.Core.Path.{◌≡◌, refl}
-use mathlib.Core.Bool.{true, false, true≢false}
+use mathlib.Core.Bool.{false, true≢false}
 use Rattle.std.proofs.Common.{Some}
 use Rattle.filter.specs.Table.{first_eight}
 use Rattle.message.specs.declared.kinds.Message.{Message}

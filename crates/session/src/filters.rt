@@ -14,10 +14,10 @@ ghost use Rattle.session.specs.Ready.{Opens, Sent, Reads, Lays, Whole, Ended, fa
 ghost use Rattle.session.specs.Turns.{mark_all, hashes_at, open_turn, open_turn', slice_turn, slice_turn', last_turn, last_turn', untouched, whole_read};
 
 use filter::answers::Reading;
-use message::kinds::Slice;
 use ledger::numbers::{
     Answer, FALSE_READING, FORM, LIMIT, MALFORMED, Numbers, OUT_OF_TURN, RANGE, ROOM, SWAPS,
 };
+use message::kinds::Slice;
 
 // How a reading ended, in numbers: what it refuses or 0, 9 and 10 among it; whether it is complete; and the lengths of the lists.
 #[derive(Drop)]

@@ -30,7 +30,7 @@ use Rattle.message.specs.Layout.{Content, Good, layout}
 use Rattle.message.specs.Laying.{laid}
 use Rattle.message.specs.Walking.{exactly_one}
 use Rattle.ledger.specs.Grid.{is_state, is_ended}
-use Rattle.ledger.specs.Session.{answer, placed, is_complete, ours_in, theirs_in, own_filter, ids_of, read_of, refusal, halted, step}
+use Rattle.ledger.specs.Session.{answer, placed, is_complete, ours_in, theirs_in, own_filter, ids_of, read_of, halted, step}
 use Rattle.ledger.specs.Calls.{Given, good_form, has_rooms, early, table_of, hash_given, session_of, unchanged, step_call, start_receiver, start_sender}
 use Rattle.ledger.proofs.Theorems.{Trusted}
 use Rattle.union.proofs.CallGiven.{Lent, given-state}
