@@ -17,7 +17,7 @@ use lib.Dec.{eqb}
 use borrow.Author.Tests.{eq-eqb, leb-true, ltb-true}
 use Rattle.filter.specs.declared.answers.Refusal.{Refusal}
 use Rattle.filter.specs.declared.answers.Refusal.TheVariants.{OutOfTurn}
-use Rattle.filter.specs.Answers.{refusal_number, first_of}
+use Rattle.filter.specs.Answers.{refusal_number, number_of, first_of}
 use Rattle.filter.specs.Calls.{Read}
 use Rattle.message.specs.Layout.{Content, slice, inquiry, offer, demand, element, done, slice_good}
 use Rattle.message.proofs.ReadLaws.{both}
@@ -38,7 +38,7 @@ abbrev pub Passed : List (Refusal × Bool) → Type 0
 Passed [] = Unit {0}
 Passed (f ∷ l) = Unless (acts (refusal_number f.0)) ((f.1 ≡ true) × Passed l)
 
-pub passes : (l : List (Refusal × Bool)) → acts (refusal_number (first_of l)) ≡ true → Passed l
+pub passes : (l : List (Refusal × Bool)) → acts (number_of (first_of l)) ≡ true → Passed l
 passes [] e = tt
 passes ((r, true) ∷ l) e = go (acts (refusal_number r)) (passes l e)
   where
@@ -52,7 +52,7 @@ abbrev pub Holds : List (Refusal × Bool) → Type 0
 Holds [] = Unit {0}
 Holds (f ∷ l) = (f.1 ≡ true) × Holds l
 
-holds-none : (l : List (Refusal × Bool)) → Holds l → refusal_number (first_of l) ≡ 0
+holds-none : (l : List (Refusal × Bool)) → Holds l → number_of (first_of l) ≡ 0
 holds-none [] h = refl
 holds-none (f ∷ l) h = rw h.0 (holds-none l h.1)
 
@@ -62,7 +62,7 @@ fails n [] = false
 fails n (f ∷ l) = (eqb (refusal_number f.0) n && not f.1) || fails n l
 
 -- as it does where a message is refused by this number
-first-fails : (n : ℕ) (l : List (Refusal × Bool)) → refusal_number (first_of l) ≡ suc n → fails (suc n) l ≡ true
+first-fails : (n : ℕ) (l : List (Refusal × Bool)) → number_of (first_of l) ≡ suc n → fails (suc n) l ≡ true
 unfolding fails
 first-fails n [] e = absurd (omega arith)
 first-fails n ((r, true) ∷ l) e = rw (and-false (eqb (refusal_number r) (suc n)), first-fails n l e)

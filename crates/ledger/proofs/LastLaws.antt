@@ -15,7 +15,7 @@ use Rattle.bucket.specs.Digits.{Below}
 use Rattle.bucket.specs.Lists.{over}
 use Rattle.bucket.proofs.OverLaws.{over-length, over-front}
 use Rattle.bucket.proofs.TestLaws.{and_holds}
-use Rattle.filter.specs.declared.answers.Refusal.TheVariants.{None}
+use Rattle.std.specs.Prelude.{None}
 use Rattle.filter.specs.Calls.{in_range, is_count, all_counts, are_counts, has_room, read_refusal}
 use Rattle.filter.specs.Steps.{Wide}
 use Rattle.filter.specs.Table.{is_table}

@@ -9,7 +9,7 @@ use lib.ListN.{length}
 use Rattle.bucket.specs.Columns.{Columns, view}
 use Rattle.bucket.specs.Lists.{Distinct}
 use Rattle.bucket.proofs.TestLaws.{and_holds}
-use Rattle.filter.specs.declared.answers.Refusal.TheVariants.{None}
+use Rattle.std.specs.Prelude.{None}
 use Rattle.filter.specs.declared.answers.Verdict.{Verdict}
 use Rattle.filter.specs.declared.answers.Verdict.TheVariants.{Complete, Stuck, False}
 use Rattle.filter.specs.Calls.{in_range, are_counts, has_room, read_refusal, Read, read_false, read_with, outcome_of, verdict_of, looked_of, read_call}

@@ -6,28 +6,27 @@ use Prim.Native.Nat.{ℕ, ◌+◌, ◌≤◌, ◌<◌, ◌%◌}
 use native.Mathlib.Omega.{arith}
 use borrow.Author.Tests.{lt-ltb, le-leb, eq-eqb}
 use lib.ListN.{length, take}
+use Rattle.std.specs.Prelude.{Result, Ok}
 use Rattle.bucket.specs.Columns.{Columns}
 use Rattle.bucket.specs.Digits.{joined}
 use Rattle.bucket.specs.Lists.{over}
 use Rattle.filter.specs.declared.answers.Refusal.{Refusal}
 use Rattle.filter.specs.Calls.{in_range, are_counts, has_room}
 use Rattle.filter.specs.Table.{hashes_of}
-use Rattle.message.specs.declared.kinds.Wrote.{Wrote}
-use Rattle.message.specs.declared.kinds.Wrote.TheVariants.{To, Refused}
 use Rattle.message.specs.Layout.{Content, done}
 use Rattle.message.specs.Writing.{layouts, inquiries_of, width_for, slices_of, have_room, Write, write, wrote, inquiry_call, hashes_call, done_call, filter_call}
 use Rattle.ledger.proofs.RoomLaws.{done-length}
 
 -- messages written from a position on
 abbrev pub written : List Content → ℕ → List ℕ → Write
-written cs at out = write (To (at + length (layouts cs))) (over at (layouts cs) out)
+written cs at out = write (Ok (at + length (layouts cs))) (over at (layouts cs) out)
 
-module _ (cs : List Content) (at : ℕ) (out : List ℕ) {r : Wrote} {o : List ℕ} (e : write r o ≡ written cs at out) where
-  pub sent_to : {n : ℕ} → r ≡ To n → (n ≡ at + length (layouts cs)) × (o ≡ over at (layouts cs) out)
-  sent_to h = let a = ap (λ (w : Write). w.answer) e in (cc, ap (λ (w : Write). w.out) e)
+module _ (cs : List Content) (at : ℕ) (out : List ℕ) {r : Result ℕ Refusal} {o : List ℕ} (e : write r o ≡ written cs at out) where
+  pub not_refused : r ≡ Ok (at + length (layouts cs))
+  not_refused = ap (λ (w : Write). w.answer) e
 
-  pub not_refused : {y : Refusal} → r ≡ Refused y → ⊥
-  not_refused h = let a = ap (λ (w : Write). w.answer) e in let z : ◌≡◌ {A = ℕ} 0 1 = cc in omega arith
+  pub sent_to : {n : ℕ} → r ≡ Ok n → (n ≡ at + length (layouts cs)) × (o ≡ over at (layouts cs) out)
+  sent_to h = let a = not_refused in (cc, ap (λ (w : Write). w.out) e)
 
 fits-within : (cs : List Content) (at : ℕ) (out : List ℕ) → at + length (layouts cs) ≤ length out → have_room cs at out ≡ true
 unfolding have_room

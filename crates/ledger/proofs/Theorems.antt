@@ -10,7 +10,7 @@ use borrow.Author.Tests.{eqb-true}
 use Rattle.bucket.specs.Bucket.{𝟎}
 use Rattle.bucket.specs.Columns.{Columns, view}
 use Rattle.bucket.specs.Lists.{elem, Distinct}
-use Rattle.filter.specs.declared.answers.Refusal.TheVariants.{None}
+use Rattle.std.specs.Prelude.{None}
 use Rattle.filter.specs.Calls.{in_range, are_counts, has_room, filled, listed_into, read_refusal, Read, read_call}
 use Rattle.filter.specs.Filter.{filter_rule, filter_of}
 use Rattle.filter.specs.Lists.{minus}

@@ -17,7 +17,7 @@ use Rattle.bucket.specs.Digits.{joined, packed}
 use Rattle.bucket.specs.Lists.{over, part}
 use Rattle.filter.specs.declared.answers.Refusal.{Refusal}
 use Rattle.filter.specs.declared.answers.Refusal.TheVariants.{Form, Room, Range, OutOfTurn, Malformed}
-use Rattle.filter.specs.Answers.{refusal_number, first_of}
+use Rattle.filter.specs.Answers.{refusal_number, number_of, first_of}
 use Rattle.filter.specs.Calls.{in_range, are_counts, has_room}
 use Rattle.filter.specs.Table.{hashes_of, is_table}
 use Rattle.message.specs.declared.kinds.Message.{Message}
@@ -181,7 +181,7 @@ has_rooms G =
     && (leb 4096 (length G.ours) && (leb 4096 (length G.theirs) && (leb 64 (length G.hash) && leb 295008 (length G.out)))))
 
 -- 1, 2, and 5 in states 6 and 7; 3 is for the starts, as a step is given no size or salt
-unfoldable pub early : (ℕ → ℕ) → Given → Refusal
+unfoldable pub early : (ℕ → ℕ) → Given → Option Refusal
 early derive G = first_of ((Form, good_form derive G) ∷ (Room, has_rooms G) ∷ (OutOfTurn, not (is_ended G.numbers.state)) ∷ [])
 
 -- ---- a step
@@ -245,7 +245,7 @@ step_said derive None G = unchanged (refusal_number Malformed) ABORTED G
 
 unfoldable pub step_call : (ℕ → ℕ) → Given → Left
 step_call derive G =
-    let n = refusal_number (early derive G) in
+    let n = number_of (early derive G) in
     cond (eqb n 0) (step_said derive (exactly_one G.message) G) (unchanged n G.numbers.state G)
 
 -- ---- the starts
@@ -263,11 +263,11 @@ starting a marks out = record { answer = a; marks = marks; out = out }
 abbrev pub no_session : Numbers
 no_session = numbered ABORTED 0 0 0 0 0 0 0 0
 
-abbrev pub started : Refusal → Numbers → List Content → List ℕ → List ℕ → List ℕ → Started
+abbrev pub started : Option Refusal → Numbers → List Content → List ℕ → List ℕ → List ℕ → Started
 started r N cs table marks out =
-    cond (eqb (refusal_number r) 0)
+    cond (eqb (number_of r) 0)
     (starting (answered 0 (length (layouts cs)) 0 N) (over 0 (replicate (length (hashes_of table)) 0) marks) (over 0 (layouts cs) out))
-    (starting (answered (refusal_number r) 0 0 no_session) marks out)
+    (starting (answered (number_of r) 0 0 no_session) marks out)
 
 -- the receiver of a filter: state 0. Size and salt are those of the first filter as soon as it comes; until then any in range do.
 -- It writes nothing, so it is lent no outgoing buffer.

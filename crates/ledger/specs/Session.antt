@@ -18,7 +18,7 @@ use Rattle.bucket.specs.Columns.{Columns, columns}
 use Rattle.bucket.specs.Lists.{elem}
 use Rattle.filter.specs.declared.answers.Refusal.{Refusal}
 use Rattle.filter.specs.declared.answers.Refusal.TheVariants.{Malformed, OutOfTurn, FalseReading, Breach, Checksum, Swaps, Limit}
-use Rattle.filter.specs.Answers.{refusal_number, first_of}
+use Rattle.filter.specs.Answers.{refusal_number, number_of, first_of}
 use Rattle.filter.specs.Lists.{select}
 use Rattle.filter.specs.Filter.{filter_rule, filter_of}
 use Rattle.filter.specs.Calls.{Read, read_by, filled, listed_into}
@@ -291,7 +291,7 @@ module _ (derive : ℕ → ℕ) (table : List ℕ) where
 
   -- its number, 0 for none; a message that the grid does not admit is out of turn
   unfoldable pub refusal : ℕ → Session → Content → ℕ
-  refusal h s c = refusal_number (first_of ((OutOfTurn, admitted s c) ∷ tests h s c))
+  refusal h s c = number_of (first_of ((OutOfTurn, admitted s c) ∷ tests h s c))
 
   -- ---- what is done
 
