@@ -1,6 +1,6 @@
 -- A reading call that is not refused: its tests hold, it answers as its verdict says, and its two lists are what was listed, last first turned round.
 -- Assumes nothing.
-use mathlib.Core.Path.{◌≡◌, refl, ap, ◌∙◌}
+use mathlib.Core.Path.{◌≡◌, refl, sym, ap, ◌∙◌}
 use mathlib.Core.Bool.{Bool, true, false, ◌&&◌, cond, and-eq-true_iff}
 use mathlib.Core.List.{List, [], ◌∷◌, reverse, append_assoc}
 use Prim.Native.Nat.{ℕ, ◌+◌, ◌-◌, ◌≤◌}
@@ -17,19 +17,39 @@ use Rattle.filter.specs.Answers.{number_of, first_of}
 use Rattle.filter.specs.Table.{ids_of, is_table}
 use Rattle.filter.specs.Calls.{in_range, are_counts, has_room, listed_into, read_refusal, unread, read_by, read_call}
 
--- only no refusal has the number 0
+-- the refusal of a number
+abbrev refusal_at : ℕ → Option Refusal
+refusal_at n =
+    cond (eqb n 1) (Some Form)
+    (cond (eqb n 2) (Some Room)
+    (cond (eqb n 3) (Some Range)
+    (cond (eqb n 4) (Some Malformed)
+    (cond (eqb n 5) (Some OutOfTurn)
+    (cond (eqb n 6) (Some FalseReading)
+    (cond (eqb n 7) (Some Breach)
+    (cond (eqb n 8) (Some Checksum)
+    (cond (eqb n 9) (Some Swaps)
+    (cond (eqb n 10) (Some Limit) None)))))))))
+
+refusal_back : (r : Option Refusal) → refusal_at (number_of r) ≡ r
+refusal_back None = refl
+refusal_back (Some Form) = refl
+refusal_back (Some Room) = refl
+refusal_back (Some Range) = refl
+refusal_back (Some Malformed) = refl
+refusal_back (Some OutOfTurn) = refl
+refusal_back (Some FalseReading) = refl
+refusal_back (Some Breach) = refl
+refusal_back (Some Checksum) = refl
+refusal_back (Some Swaps) = refl
+refusal_back (Some Limit) = refl
+
+-- no two refusals have one number, and only no refusal has the number 0
+pub number_same : {r s : Option Refusal} → number_of r ≡ number_of s → r ≡ s
+number_same {r} {s} e = sym (refusal_back r) ∙ ap refusal_at e ∙ refusal_back s
+
 pub number_zero : (r : Option Refusal) → number_of r ≡ 0 → r ≡ None
-number_zero None e = refl
-number_zero (Some Form) e = cc
-number_zero (Some Room) e = cc
-number_zero (Some Range) e = cc
-number_zero (Some Malformed) e = cc
-number_zero (Some OutOfTurn) e = cc
-number_zero (Some FalseReading) e = cc
-number_zero (Some Breach) e = cc
-number_zero (Some Checksum) e = cc
-number_zero (Some Swaps) e = cc
-number_zero (Some Limit) e = cc
+number_zero r e = number_same e
 
 tests_hold : (a b c : Bool) → first_of ((Form, a) ∷ (Range, b) ∷ (Room, c) ∷ []) ≡ None → (a ≡ true) × (b ≡ true) × (c ≡ true)
 tests_hold true true true e = (refl, refl, refl)
