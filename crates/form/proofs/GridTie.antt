@@ -2,6 +2,7 @@
 use mathlib.Core.Path.{◌≡◌, refl, sym, ap, ◌∙◌}
 use mathlib.Core.Bool.{true, false}
 use Prim.Native.Nat.{ℕ}
+use lib.Dec.{eqb}
 use Rattle.std.specs.Result.{is_ok}
 use Rattle.std.proofs.Common.{Result, Ok, Err}
 use denote.Enum.Declared.{tag_of}
@@ -49,3 +50,13 @@ number-state Aborted = refl
 pub converted : (n : ℕ) (r : Result State NoState) → IsStateOf n r → is_ok r ≡ is_state n
 converted n (Ok q) h = sym (number-state q) ∙ ap is_state h
 converted n (Err e) h = sym h
+
+-- no kind's column is behind all columns
+pub kind-column : (k : Kind) → eqb (column k) 7 ≡ false
+kind-column Ibf = refl
+kind-column IbfLast = refl
+kind-column Inquiry = refl
+kind-column Offer = refl
+kind-column Demand = refl
+kind-column Element = refl
+kind-column Done = refl

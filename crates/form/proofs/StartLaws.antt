@@ -46,6 +46,14 @@ module _ (t marks : List ℕ) {a : Answer} where
 
 -- ---- the sender's
 
+-- two rooms tested at once
+pub rooms-there : (m n k l : ℕ) → ltb k m || ltb l n ≡ false → (m ≤ k) × (n ≤ l)
+rooms-there m n k l e = go (ltb k m) (ltb l n) refl refl e
+  where
+    go : (a b : Bool) → ltb k m ≡ a → ltb l n ≡ b → a || b ≡ false → (m ≤ k) × (n ≤ l)
+    go false b x y h = (ltb-false k m x, ltb-false l n (y ∙ h))
+    go true b x y h = absurd (true≢false h)
+
 -- the IDs of a table
 ids-same : (t : List ℕ) → ids_of first_eight t ≡ ids_in first_eight (hashes_of t)
 unfolding ids_of ids_in

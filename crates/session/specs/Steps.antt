@@ -3,7 +3,7 @@
 --   DoneSteps, ElementSteps   a DONE and an ELEMENT that the grid admits
 --   LastSteps                 an ELEMENT of an unmet demand after which our DONE goes
 --   LedgerSteps               any message that is no slice
-use Rattle.std.specs.Prelude.{◌≡◌, Bool, true, false, cond, List, ℕ, ◌+◌, ◌*◌, eqb, take}
+use Rattle.std.specs.Prelude.{◌≡◌, Bool, true, false, cond, List, Some, ℕ, ◌+◌, ◌*◌, eqb, take}
 use Rattle.bucket.specs.Columns.{Columns}
 use Rattle.bucket.specs.Digits.{joined}
 use Rattle.bucket.specs.Lists.{elem, part}
@@ -95,5 +95,5 @@ abbrev pub LedgerSteps : Numbers → (table R M I hash message out : List ℕ) �
 LedgerSteps N table R M I hash message out m T r R' M' out' =
     (ours theirs : List ℕ) (cols : Columns)
     → let G = given N table R M I cols ours theirs hash message out in
-    Sound G → T ≡ tally_there N table R M I → is_slice m ≡ false
+    Sound G → Some T ≡ tally_there N table R M I → is_slice m ≡ false
     → left r R' M' I cols ours theirs out' ≡ step_said first_eight m G

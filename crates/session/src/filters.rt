@@ -43,7 +43,7 @@ pub(crate) fn on_slice(
     ensures { slice_turn' result (columns ids.new hashes.new counts.new)
         ≡ slice_turn numbers (content (exactly_one message.now) message.now) size offset salt width (columns ids.old hashes.old counts.old) }
 {
-    if !form::grid::admits_slice(numbers, form::grid::IBF) {
+    if !form::grid::admits_slice(numbers, form::grid::Kind::Ibf) {
         return form::numbers::aborted(OUT_OF_TURN, numbers);
     }
     if !form::grid::is_placed(numbers, size, offset, salt, width) {
@@ -75,7 +75,7 @@ pub(crate) fn on_last(
     ensures { last_turn' result marks.new inquired.new (untouched (columns ids.new hashes.new counts.new) ours.new theirs.new) out.new
         ≡ last_turn numbers table.now (content (exactly_one message.now) message.now) size offset salt width (columns ids.old hashes.old counts.old) ours.old theirs.old marks.old inquired.old out.old }
 {
-    if !form::grid::admits_slice(numbers, form::grid::LAST) {
+    if !form::grid::admits_slice(numbers, form::grid::Kind::IbfLast) {
         return form::numbers::aborted(OUT_OF_TURN, numbers);
     }
     if !form::grid::is_placed(numbers, size, offset, salt, width) {

@@ -1,12 +1,14 @@
 // One step of the protocol.
-ghost use Rattle.std.specs.Prelude.{◌≡◌};
+ghost use Rattle.std.specs.Prelude.{◌≡◌, MatchOption};
 ghost use Rattle.bucket.specs.Columns.{columns};
 ghost use Rattle.filter.specs.Table.{first_eight};
 ghost use Rattle.message.specs.Walking.{exactly_one};
 ghost use Rattle.ledger.specs.Calls.{given, left, step_call};
+ghost use Rattle.form.specs.Grid.{column};
 ghost use Rattle.session.specs.Judged.{InForm};
 ghost use Rattle.session.specs.Steps.{LedgerSteps, column_of, screen_of};
 
+use form::grid::Kind;
 use form::tallying::Tally;
 use ledger::numbers::{Answer, MALFORMED, Numbers, OUT_OF_TURN};
 use message::kinds::Message;
@@ -31,7 +33,7 @@ pub fn step(
     ensures { left result records.new marks.new inquired.new (columns ids.new hashes.new counts.new) ours.new theirs.new out.new
         ≡ step_call first_eight (given numbers table.now records.old marks.old inquired.old (columns ids.old hashes.old counts.old) ours.old theirs.old hash.now message.now out.old) }
 {
-    let tally = form::tallying::judge(numbers, table, records, marks, inquired, counts);
+    let judged = form::tallying::judge(numbers, table, records, marks, inquired, counts);
     let roomy = form::rooms::has_room(
         records.len(),
         marks.len(),
@@ -44,7 +46,10 @@ pub fn step(
         hash.len(),
         out.len(),
     );
-    let refusal = form::rooms::early(tally.good, roomy, numbers.state);
+    let refusal = form::rooms::early(judged.is_some(), roomy, numbers.state);
+    let Some(tally) = judged else {
+        return form::numbers::refused(refusal, numbers);
+    };
     if refusal != 0 {
         return form::numbers::refused(refusal, numbers);
     }
@@ -125,28 +130,27 @@ fn on_ledger(
 fn screened(state: u32, m: Message) -> u32
     ensures { result ≡ screen_of state (column_of m) }
 {
-    let k = column(m);
-    if k == form::grid::COLUMNS {
+    let Some(kind) = kind(m) else {
         return MALFORMED;
-    }
-    if !form::grid::admits(state, k) {
+    };
+    if !form::grid::admits(state, kind) {
         return OUT_OF_TURN;
     }
     0
 }
 
-// The grid's column of a message, behind all columns where the bytes are none.
-fn column(m: Message) -> usize
-    ensures { result ≡ column_of m }
+// The kind of a message, where the bytes are one.
+fn kind(m: Message) -> Option<Kind>
+    ensures { MatchOption result (column_of m ≡ 7) (λ k. column_of m ≡ column k) }
 {
     match m {
-        Message::Ibf { .. } => form::grid::IBF,
-        Message::IbfLast { .. } => form::grid::LAST,
-        Message::Inquiry { .. } => form::grid::INQUIRY,
-        Message::Offer { .. } => form::grid::OFFER,
-        Message::Demand { .. } => form::grid::DEMAND,
-        Message::Element { .. } => form::grid::ELEMENT,
-        Message::Done => form::grid::DONE,
-        Message::Malformed => form::grid::COLUMNS,
+        Message::Ibf { .. } => Some(Kind::Ibf),
+        Message::IbfLast { .. } => Some(Kind::IbfLast),
+        Message::Inquiry { .. } => Some(Kind::Inquiry),
+        Message::Offer { .. } => Some(Kind::Offer),
+        Message::Demand { .. } => Some(Kind::Demand),
+        Message::Element { .. } => Some(Kind::Element),
+        Message::Done => Some(Kind::Done),
+        Message::Malformed => None,
     }
 }

@@ -17,11 +17,12 @@ use Rattle.message.specs.contracts.kinds.Message.{the_type}
 use Rattle.ledger.specs.declared.numbers.Answer.{Answer}
 use Rattle.ledger.specs.Calls.{Given, given, left, step_call, step_said}
 use Rattle.ledger.proofs.Sound.{Sound}
-use Rattle.form.specs.declared.tallying.Tally.{Tally}
+use Rattle.std.specs.Option.{is_some}
+use Rattle.std.proofs.Common.{Some}
 use Rattle.form.specs.Answers.{early_of}
 use Rattle.form.proofs.TallyLaws.{tally_given}
 use Rattle.session.specs.Judged.{InForm}
-use Rattle.session.proofs.StepLaws.{early_in, early-refused, said, sound, tally_sound}
+use Rattle.session.proofs.StepLaws.{early_in, early-refused, formless, said, sound, tally_sound}
 use Rattle.session.proofs.InFormLaws.{in_form}
 use Rattle.session.proofs.LastGranted.{slice-lays, last_ready}
 use Rattle.session.proofs.SaidTie.{slice-said, last_said}
@@ -37,11 +38,10 @@ given1 c = let a = c.args in given a.numbers a.table.now a.records.now a.marks.n
 
 first_is : (c : After-early-refusal) → c.early-refusal.result ≡ early_in (given_first c)
 first_is c = c.early-refusal.ensures
-    ∙ ap₂ (λ (g r : Bool). early_of g r (given_first c).numbers.state) (ap (λ (t : Tally). t.good) c.judge-tally.ensures.1) c.has_room-roomy.ensures
+    ∙ ap₂ (λ (g r : Bool). early_of g r (given_first c).numbers.state) (c.is_some.ensures ∙ ap is_some c.judge-judged.ensures.1) c.has_room-roomy.ensures
 
 none_first : (c : Else-refusal-ne0) → early_in (given1 c) ≡ 0
-none_first c = sym (c.early-refusal.ensures
-    ∙ ap₂ (λ (g r : Bool). early_of g r (given1 c).numbers.state) (ap (λ (t : Tally). t.good) c.judge-tally.ensures.1) c.has_room-roomy.ensures) ∙ c.if-refusal-ne0.false
+none_first c = sym (first_is (goal.at.Else-refusal-ne0 c).After-early-refusal) ∙ c.if-refusal-ne0.false
 
 sound-at : (c : Else-refusal-ne0) → Sound (given1 c)
 sound-at c = sound (given1 c) (none_first c) (λ i. (c.slice_known-1.given i).fits) (λ i. (c.slice_known-2-1.given i).fits)
@@ -51,8 +51,8 @@ said_at : (c : Else-refusal-ne0) → step_said first_eight (exactly_one (given1 
 said_at c = said (given1 c) (none_first c)
 
 -- the tally is the definition's
-tally_at : (c : Else-refusal-ne0) → c.judge-tally.result ≡ tally_given (given1 c)
-tally_at c = c.judge-tally.ensures.1 ∙ tally_sound (given1 c) (none_first c)
+tally_at : (c : Else-refusal-ne0) → Some c.in-Some.tally ≡ tally_given (given1 c)
+tally_at c = sym c.in-Some.is ∙ c.judge-judged.ensures.1 ∙ tally_sound (given1 c) (none_first c)
 
 -- the kinds behind these two, by number, are no slices
 other : (m : Message) → OneOf (2 ∷ 3 ∷ 4 ∷ 5 ∷ 6 ∷ 7 ∷ []) (tag_of the_type m) → is_slice m ≡ false
@@ -65,9 +65,15 @@ other (Element n) h = refl
 other Done h = refl
 other Malformed h = refl
 
+-- no tally is refusal 1
+pub returns-in_default : goal.returns-in_default
+returns-in_default c = let G = given_first (goal.at.returns-in_default c).After-early-refusal in
+    ap (λ (a : Answer). left a G.records G.marks G.inquired G.columns G.ours G.theirs G.out) c.refused.ensures
+    ∙ early-refused G (first_is (goal.at.returns-in_default c).After-early-refusal) (formless c.has_room-roomy.result c.args.numbers.state c.early-refusal.ensures (c.is_some.ensures ∙ ap is_some c.in_default.is))
+
 pub returns-then-refusal-ne0 : goal.returns-then-refusal-ne0
 returns-then-refusal-ne0 c = let G = given_first (goal.at.returns-then-refusal-ne0 c).After-early-refusal in
-    ap (λ (a : Answer). left a G.records G.marks G.inquired G.columns G.ours G.theirs G.out) c.refused.ensures
+    ap (λ (a : Answer). left a G.records G.marks G.inquired G.columns G.ours G.theirs G.out) c.refused-then-refusal-ne0.ensures
     ∙ early-refused G (first_is (goal.at.returns-then-refusal-ne0 c).After-early-refusal) (ne_eqb _ 0 c.if-refusal-ne0.true)
 
 pub on_slice-requires : goal.on_slice-requires
@@ -78,7 +84,7 @@ on_last-requires c = last_ready (given1 (goal.at.on_last-requires c).Else-refusa
 
 pub on_ledger-requires : goal.on_ledger-requires
 on_ledger-requires c = let G = given1 (goal.at.on_ledger-requires c).Else-refusal-ne0 in
-    (subst (λ (t : Tally). InForm G.numbers G.table G.records G.marks G.inquired G.hash G.out t) (sym (tally_at (goal.at.on_ledger-requires c).Else-refusal-ne0)) (in_form G (sound-at (goal.at.on_ledger-requires c).Else-refusal-ne0)), sym c.read.ensures)
+    (in_form G (sound-at (goal.at.on_ledger-requires c).Else-refusal-ne0) c.in-Some.tally (tally_at (goal.at.on_ledger-requires c).Else-refusal-ne0), sym c.read.ensures)
 
 pub returns-in-Ibf : goal.returns-in-Ibf
 returns-in-Ibf c = let G = given1 (goal.at.returns-in-Ibf c).Else-refusal-ne0 in
@@ -90,8 +96,8 @@ returns-in-IbfLast c = let G = given1 (goal.at.returns-in-IbfLast c).Else-refusa
     last_said G (sound-at (goal.at.returns-in-IbfLast c).Else-refusal-ne0) c.in-IbfLast.size c.in-IbfLast.offset c.in-IbfLast.salt c.in-IbfLast.width c.in-IbfLast.count (sym c.read.ensures ∙ c.in-IbfLast.is) c.on_last.ensures
     ∙ said_at (goal.at.returns-in-IbfLast c).Else-refusal-ne0
 
-pub returns-in_default : goal.returns-in_default
-returns-in_default c = let G = given1 (goal.at.returns-in_default c).Else-refusal-ne0 in
-    c.on_ledger.ensures G.ours G.theirs G.columns (sound-at (goal.at.returns-in_default c).Else-refusal-ne0) (tally_at (goal.at.returns-in_default c).Else-refusal-ne0) (other c.read.result (opened c.in_default.in_default-own.keys3))
+pub returns-in_default-read : goal.returns-in_default-read
+returns-in_default-read c = let G = given1 (goal.at.returns-in_default-read c).Else-refusal-ne0 in
+    c.on_ledger.ensures G.ours G.theirs G.columns (sound-at (goal.at.returns-in_default-read c).Else-refusal-ne0) (tally_at (goal.at.returns-in_default-read c).Else-refusal-ne0) (other c.read.result (opened c.in_default-read.in_default-read-own.keys3))
     ∙ ap (λ (k : Message). step_said first_eight k G) c.read.ensures
-    ∙ said_at (goal.at.returns-in_default c).Else-refusal-ne0
+    ∙ said_at (goal.at.returns-in_default-read c).Else-refusal-ne0
