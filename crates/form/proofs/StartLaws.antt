@@ -2,11 +2,11 @@
 -- definition's memory. Assumes nothing.
 use mathlib.Core.Path.{◌≡◌, refl, ap, ap₂, ◌∙◌}
 use mathlib.Core.Logic.{◌⊎◌, inl, inr}
-use mathlib.Core.Bool.{Bool, true, false, not, ◌&&◌, ◌||◌, true≢false}
+use mathlib.Core.Bool.{Bool, true, false, ◌||◌, true≢false}
 use mathlib.Core.List.{List, [], ◌++◌}
 use Prim.Native.Nat.{ℕ, ◌+◌, ◌≤◌, ◌<◌}
 use borrow.Author.Tests.{ltb-false, le-leb, lt-leb}
-use lib.Dec.{ltb, leb}
+use lib.Dec.{ltb}
 use native.Mathlib.Omega.{arith}
 use lib.ListN.{length, take, drop, replicate, length-replicate}
 use lib.Seq.{length-take-le}
@@ -18,7 +18,6 @@ use Rattle.ledger.specs.declared.numbers.Numbers.{Numbers}
 use Rattle.ledger.specs.declared.numbers.Answer.{Answer}
 use Rattle.ledger.specs.Session.{ids_of as ids_in, own_filter}
 use Rattle.ledger.specs.Calls.{numbered, answered, no_session, starting, start_receiver, start_sender}
-use Rattle.ledger.proofs.CallLaws.{leb_not_ltb}
 
 -- the first n marks filled with zeros
 pub cleared : (n : ℕ) (marks zeros : List ℕ) → n ≤ length marks → zeros ≡ replicate (length (take n marks)) 0 → zeros ++ drop n marks ≡ over 0 (replicate n 0) marks
