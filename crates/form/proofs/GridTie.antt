@@ -2,6 +2,7 @@
 use mathlib.Core.Path.{◌≡◌, refl, sym, ap, ◌∙◌}
 use mathlib.Core.Bool.{true, false}
 use Prim.Native.Nat.{ℕ}
+use lib.Dec.{eqb}
 use Rattle.std.specs.Result.{is_ok}
 use Rattle.std.proofs.Common.{Result, Ok, Err}
 use denote.Enum.Declared.{tag_of}
@@ -9,10 +10,10 @@ use Rattle.ledger.specs.Grid.{is_state, place_in, row_of}
 use Rattle.bucket.specs.Lists.{elem}
 use Rattle.form.specs.declared.grid.State.{State}
 use Rattle.form.specs.declared.grid.State.TheVariants.{Expecting, ExpectingLast, Active, Passive, Waiting, Finished, Aborted}
-use Rattle.form.specs.declared.grid.Kind.{Kind}
-use Rattle.form.specs.declared.grid.Kind.TheVariants.{Ibf, IbfLast, Inquiry, Offer, Demand, Element, Done}
+use Rattle.message.specs.declared.kinds.Kind.{Kind}
+use Rattle.message.specs.declared.kinds.Kind.TheVariants.{Ibf, IbfLast, Inquiry, Offer, Demand, Element, Done}
 use Rattle.form.specs.contracts.grid.State as of_state
-use Rattle.form.specs.contracts.grid.Kind as of_kind
+use Rattle.message.specs.contracts.kinds.Kind as of_kind
 use Rattle.form.specs.declared.grid.NoState.{NoState}
 use Rattle.form.specs.Grid.{column, number, IsStateOf}
 
@@ -49,3 +50,13 @@ number-state Aborted = refl
 pub converted : (n : ℕ) (r : Result State NoState) → IsStateOf n r → is_ok r ≡ is_state n
 converted n (Ok q) h = sym (number-state q) ∙ ap is_state h
 converted n (Err e) h = sym h
+
+-- no kind's column is behind all columns
+pub kind-column : (k : Kind) → eqb (column k) 7 ≡ false
+kind-column Ibf = refl
+kind-column IbfLast = refl
+kind-column Inquiry = refl
+kind-column Offer = refl
+kind-column Demand = refl
+kind-column Element = refl
+kind-column Done = refl

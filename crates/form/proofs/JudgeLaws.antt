@@ -7,7 +7,7 @@ use native.Mathlib.Omega.{arith}
 use lib.Dec.{leb}
 use lib.ListN.{length, take, drop, drop_of_length-le}
 use borrow.Author.Tests.{leb-true, leb-false}
-use lib.Seq.{length-take-le, take-length, take_all}
+use lib.Seq.{length-take-le}
 use Rattle.std.proofs.lemmas.List.Sums.{count_by-le-length}
 use Rattle.filter.specs.Lists.{ascending}
 use Rattle.filter.specs.Table.{first_eight, hashes_of, ids_of, is_table}
@@ -25,16 +25,7 @@ table-few t good = omega (arith, hashes-length t, table-count t good)
 pub known-count : (n : ℕ) (records : List ℕ) → 64 * n ≤ length records → length (hashes_of (take (64 * n) records)) ≡ n
 known-count n records h = omega (arith, hashes-length (take (64 * n) records), length-take-le (64 * n) records h)
 
--- as far as a list is there
-pub take-there : (n : ℕ) (l : List ℕ) → take (min n (length l)) l ≡ take n l
-take-there n l = go (leb n (length l)) refl
-  where
-    go : (b : Bool) → leb n (length l) ≡ b → take (min n (length l)) l ≡ take n l
-    go true e = ap (λ (k : ℕ). take k l) {x = min n (length l)} {y = n} (omega (arith, leb-true n (length l) e))
-    go false e =
-        let short = leb-false n (length l) e in
-        ap (λ (k : ℕ). take k l) {x = min n (length l)} {y = length l} (omega (arith, short)) ∙ take-length l ∙ sym (take_all n l (omega (arith, short)))
-
+-- what is beyond n, where that is there
 pub drop-there : (n : ℕ) (l : List ℕ) → drop (min (length l) n) l ≡ drop n l
 drop-there n l = go (leb n (length l)) refl
   where

@@ -5,18 +5,17 @@
 --   judged_tally     a good form's tally
 use mathlib.Core.Path.{◌≡◌, refl, sym, ap, ◌∙◌}
 use mathlib.Core.Bool.{Bool, true, false, ◌&&◌, cond, and_assoc}
-use Prim.Native.Nat.{ℕ, ◌+◌, ◌-◌, ◌*◌, ◌≤◌}
+use Prim.Native.Nat.{◌≤◌}
 use lib.Dec.{eqb, leb}
-use lib.ListN.{length, take}
 use Rattle.std.specs.Option.{is_some}
 use Rattle.std.proofs.Common.{Option, Some, None}
 use Rattle.filter.specs.Calls.{in_range, are_counts}
 use Rattle.filter.specs.Sets.{implies}
-use Rattle.filter.specs.Table.{first_eight, ids_of, is_table}
+use Rattle.filter.specs.Table.{first_eight, is_table}
 use Rattle.filter.proofs.SetLaws.{and_l}
 use Rattle.ledger.specs.Grid.{EXPECTING_LAST, is_state}
 use Rattle.ledger.specs.Form.{good_numbers, idle}
-use Rattle.ledger.specs.Calls.{Given, session_of, readable, counts_nothing, good_front, there, is_whole, good_back, good_form}
+use Rattle.ledger.specs.Calls.{Given, session_of, readable, counts_nothing, good_front, is_whole, good_back, good_form}
 use Rattle.ledger.proofs.GivenLaws.{front-table, front-readable, readable-few}
 use Rattle.form.specs.declared.tallying.Tally.{Tally}
 use Rattle.form.specs.Tallies.{tally_of, tally_there, numbers_fit, front_by, judged_by}

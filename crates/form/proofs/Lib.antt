@@ -6,7 +6,6 @@ pub mod CountLaws
 pub mod MarkTests
 pub mod TestedLaws
 pub mod JudgeLaws
-pub mod FormByLaws
 pub mod FormTie
 pub mod TallyLaws
 pub mod JudgedLaws

@@ -2,11 +2,11 @@
 -- definition's memory. Assumes nothing.
 use mathlib.Core.Path.{◌≡◌, refl, ap, ap₂, ◌∙◌}
 use mathlib.Core.Logic.{◌⊎◌, inl, inr}
-use mathlib.Core.Bool.{Bool, true, false, not, ◌&&◌, ◌||◌, true≢false}
+use mathlib.Core.Bool.{Bool, true, false, ◌||◌, true≢false}
 use mathlib.Core.List.{List, [], ◌++◌}
 use Prim.Native.Nat.{ℕ, ◌+◌, ◌≤◌, ◌<◌}
 use borrow.Author.Tests.{ltb-false, le-leb, lt-leb}
-use lib.Dec.{ltb, leb}
+use lib.Dec.{ltb}
 use native.Mathlib.Omega.{arith}
 use lib.ListN.{length, take, drop, replicate, length-replicate}
 use lib.Seq.{length-take-le}
@@ -18,7 +18,6 @@ use Rattle.ledger.specs.declared.numbers.Numbers.{Numbers}
 use Rattle.ledger.specs.declared.numbers.Answer.{Answer}
 use Rattle.ledger.specs.Session.{ids_of as ids_in, own_filter}
 use Rattle.ledger.specs.Calls.{numbered, answered, no_session, starting, start_receiver, start_sender}
-use Rattle.ledger.proofs.CallLaws.{leb_not_ltb}
 
 -- the first n marks filled with zeros
 pub cleared : (n : ℕ) (marks zeros : List ℕ) → n ≤ length marks → zeros ≡ replicate (length (take n marks)) 0 → zeros ++ drop n marks ≡ over 0 (replicate n 0) marks
@@ -45,6 +44,14 @@ module _ (t marks : List ℕ) {a : Answer} where
     receiver_starts h en ea el em = rw (table, le-leb 8192 (length marks) h, ea, en, em, el)
 
 -- ---- the sender's
+
+-- two rooms tested at once
+pub rooms-there : (m n k l : ℕ) → ltb k m || ltb l n ≡ false → (m ≤ k) × (n ≤ l)
+rooms-there m n k l e = go (ltb k m) (ltb l n) refl refl e
+  where
+    go : (a b : Bool) → ltb k m ≡ a → ltb l n ≡ b → a || b ≡ false → (m ≤ k) × (n ≤ l)
+    go false b x y h = (ltb-false k m x, ltb-false l n (y ∙ h))
+    go true b x y h = absurd (true≢false h)
 
 -- the IDs of a table
 ids-same : (t : List ℕ) → ids_of first_eight t ≡ ids_in first_eight (hashes_of t)

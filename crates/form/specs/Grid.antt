@@ -8,8 +8,8 @@ use Rattle.ledger.specs.Grid.{EXPECTING, EXPECTING_LAST, ACTIVE, PASSIVE, WAITIN
 use Rattle.form.specs.declared.grid.State.{State}
 use Rattle.form.specs.declared.grid.State.TheVariants.{Expecting, ExpectingLast, Active, Passive, Waiting, Finished, Aborted}
 use Rattle.form.specs.declared.grid.NoState.{NoState}
-use Rattle.form.specs.declared.grid.Kind.{Kind}
-use Rattle.form.specs.declared.grid.Kind.TheVariants.{Ibf, IbfLast, Inquiry, Offer, Demand, Element, Done}
+use Rattle.message.specs.declared.kinds.Kind.{Kind}
+use Rattle.message.specs.declared.kinds.Kind.TheVariants.{Ibf, IbfLast, Inquiry, Offer, Demand, Element, Done}
 
 abbrev pub column : Kind → ℕ
 column Ibf = 0

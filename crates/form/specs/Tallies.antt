@@ -4,7 +4,7 @@
 --   front_by         the table, the numbers, and in state 1 the counts
 --   tally_there      the ledger as far as it is there, with what the messages of a session count on
 --   judged_by        both
-use Rattle.std.specs.Prelude.{Bool, not, ◌&&◌, ◌||◌, cond, List, [], ◌∷◌, Option, Some, None, ℕ, ◌+◌, ◌-◌, ◌*◌, ◌/◌, ◌≤◌, min, eqb, ltb, leb, ℤ, length, take, count_by}
+use Rattle.std.specs.Prelude.{Bool, not, ◌&&◌, ◌||◌, cond, List, Option, Some, None, ℕ, ◌+◌, ◌-◌, ◌*◌, ◌/◌, ◌≤◌, min, eqb, ltb, leb, ℤ, length, take, count_by}
 use Rattle.bucket.specs.Lists.{elem, part}
 use Rattle.filter.specs.Calls.{in_range, are_counts}
 use Rattle.filter.specs.Lists.{select, ascending}

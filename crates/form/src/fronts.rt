@@ -14,10 +14,7 @@ pub(crate) fn is_good_front(numbers: Numbers, table: &[u8], counts: &[i64]) -> b
 }
 
 // Ranges, and that an idle session counts nothing.
-#[tactic(
-    auto,
-    unfolding(crate::specs::Tallies::numbers_fit, ledger::specs::Calls::counts_nothing)
-)]
+#[tactic(auto, unfolding(crate::specs::Tallies::numbers_fit, ledger::specs::Calls::counts_nothing))]
 fn are_numbers(n: Numbers) -> bool
     ensures { result ≡ numbers_fit n }
 {

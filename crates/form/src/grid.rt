@@ -7,6 +7,7 @@ ghost use Rattle.form.specs.Grid.{column, IsStateOf};
 use ledger::numbers::{
     ABORTED, ACTIVE, EXPECTING, EXPECTING_LAST, FINISHED, Numbers, PASSIVE, WAITING,
 };
+use message::kinds::Kind;
 
 // The states, in the order of the grid's rows.
 #[derive(Clone, Copy, PartialEq, Eq)]
@@ -44,19 +45,7 @@ impl TryFrom<u32> for State {
     }
 }
 
-// The kinds of messages, in the order of the grid's columns.
-#[derive(Clone, Copy, PartialEq, Eq)]
-pub enum Kind {
-    Ibf,
-    IbfLast,
-    Inquiry,
-    Offer,
-    Demand,
-    Element,
-    Done,
-}
-
-// One row a state: IBF, IBF LAST, INQUIRY, OFFER, DEMAND, ELEMENT, DONE.
+// One row a state, one column a kind of message: IBF, IBF LAST, INQUIRY, OFFER, DEMAND, ELEMENT, DONE.
 const GRID: [[bool; 7]; 7] = [
     [true, true, false, false, false, false, false], // 0 Expecting IBF
     [true, true, false, false, false, false, false], // 1 Expecting IBF Last

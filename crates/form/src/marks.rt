@@ -1,13 +1,5 @@
 // The bits of a mark.
-#![tactic(
-    auto,
-    unfolding(
-        ledger::specs::Memory::is_asked,
-        ledger::specs::Memory::is_offered,
-        ledger::specs::Memory::is_served,
-        ledger::specs::Memory::is_met,
-    )
-)]
+#![tactic(auto, unfolding(ledger::specs::Memory::is_asked, ledger::specs::Memory::is_offered, ledger::specs::Memory::is_served, ledger::specs::Memory::is_met))]
 
 ghost use Rattle.std.specs.Prelude.{◌≡◌, ◌/◌, ◌%◌, ◌<◌, eqb};
 ghost use Rattle.ledger.specs.Memory.{is_asked, is_offered, is_served, is_met};

@@ -46,7 +46,7 @@ module _ (G : Given) (s : Sound G) {r : Answer} {out' : List ℕ} where
       ∙ demand-tie G s timely (unpacked 512 n (part 4 (64 * n) G.message))
       ∙ ap (λ (c : Content). step_on first_eight c G) (demand-said G.message n e)
 
-  pub offer-steps : {R' M' : List ℕ} (T : Tally) → T ≡ tally_given G → (n : ℕ) → exactly_one G.message ≡ Some (Offer n) → entry G.numbers.state 3 ≡ true
+  pub offer-steps : {R' M' : List ℕ} (T : Tally) → Some T ≡ tally_given G → (n : ℕ) → exactly_one G.message ≡ Some (Offer n) → entry G.numbers.state 3 ≡ true
       → offer_turn' r (stored R' M') out'
       ≡ offer_turn G.numbers (table_of G) (demanded_in G) (take G.numbers.inquired G.inquired) (unpacked 512 n (part 4 (64 * n) G.message))
       T.concerned G.records G.marks G.out
@@ -55,23 +55,22 @@ module _ (G : Given) (s : Sound G) {r : Answer} {out' : List ℕ} where
   offer-steps T counted n e timely is =
       ap (λ (x : OfferTurn). leaves G x.answer x.stored.records x.stored.marks x.out) is
       ∙ offer_tie G s timely (unpacked 512 n (part 4 (64 * n) G.message)) (items_short n (part 4 (64 * n) G.message)) T.concerned
-      (ap (λ (t : Tally). t.concerned) counted ∙ tally_concerned G s)
+      (tally_concerned G s T counted)
       ∙ ap (λ (c : Content). step_on first_eight c G) (offer-said G.message n e)
 
   -- the tally counts what these functions ask for
-  pub element-steps : {M' : List ℕ} (T : Tally) → T ≡ tally_given G → (n : ℕ) → entry G.numbers.state 5 ≡ true
+  pub element-steps : {M' : List ℕ} (T : Tally) → Some T ≡ tally_given G → (n : ℕ) → entry G.numbers.state 5 ≡ true
       → ElementSteps G.numbers G.table G.records G.marks G.hash G.out T.came T.unmet r M' out'
       → leaves G r G.records M' out' ≡ step_said first_eight (Some (Element n)) G
   unfolding step_said content
   element-steps T is n timely steps =
       steps G.inquired G.message G.ours G.theirs (drop 4 G.message) G.columns s timely
-      (subst (λ (t : Tally). LastUnmet t.unmet G) (sym is) (tally_last G s (hash_given G)))
-      (subst (λ (t : Tally). LastCame t.came G) (sym is) (tally_came G s (hash_given G)))
+      (tally_last G s T is (hash_given G)) (tally_came G s T is (hash_given G))
 
-  pub done-steps : {R' : List ℕ} (T : Tally) → T ≡ tally_given G → exactly_one G.message ≡ Some Done → entry G.numbers.state 6 ≡ true
+  pub done-steps : {R' : List ℕ} (T : Tally) → Some T ≡ tally_given G → exactly_one G.message ≡ Some Done → entry G.numbers.state 6 ≡ true
       → DoneSteps G.numbers G.table G.records G.marks G.message G.out T.unmet r R' out'
       → leaves G r R' G.marks out' ≡ step_said first_eight (Some Done) G
   unfolding step_said
   done-steps T is e timely steps =
-      steps G.inquired G.hash G.ours G.theirs G.columns s timely (subst (λ (t : Tally). Unmet t.unmet G) (sym is) (tally_unmet G s))
+      steps G.inquired G.hash G.ours G.theirs G.columns s timely (tally_unmet G s T is)
       ∙ ap (λ (c : Content). step_on first_eight c G) (done-said G.message e)

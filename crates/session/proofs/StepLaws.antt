@@ -6,6 +6,7 @@ use Prim.Native.Nat.{ℕ}
 use lib.Dec.{eqb}
 use lib.ListN.{length}
 use borrow.Author.Tests.{not-true}
+use Rattle.std.specs.Option.{is_some}
 use Rattle.bucket.specs.Digits.{Below}
 use Rattle.filter.specs.declared.answers.Refusal.{Refusal}
 use Rattle.filter.specs.declared.answers.Refusal.TheVariants.{Form, Room, OutOfTurn}
@@ -26,11 +27,16 @@ use Rattle.form.proofs.TallyLaws.{tally_given}
 abbrev in_order : Given → List (Refusal × Bool)
 in_order G = (Form, good_form first_eight G) ∷ (Room, has_rooms G) ∷ (OutOfTurn, not (is_ended G.numbers.state)) ∷ []
 
+-- what has no form is refused
+pub formless : (roomy : Bool) (state : ℕ) {good : Bool} {n : ℕ} → n ≡ early_of good roomy state → good ≡ false → eqb n 0 ≡ false
+unfolding early_of
+formless roomy state e g = ap (λ (n : ℕ). eqb n 0) (e ∙ ap (λ (b : Bool). early_of b roomy state) g)
+
 module _ (G : Given) where
   -- the refusal, by the tests as the code makes them
   abbrev pub early_in : ℕ
   early_in =
-      early_of (judged_in G).good
+      early_of (is_some (judged_in G))
       (rooms_of (length G.records) (length G.marks) (length G.inquired)
       (length G.columns.idsums) (length G.columns.hashsums) (length G.columns.counts)
       (length G.ours) (length G.theirs) (length G.hash) (length G.out))

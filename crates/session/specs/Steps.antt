@@ -86,5 +86,5 @@ abbrev pub LedgerSteps : Numbers → (table R M I hash message out : List ℕ) �
 LedgerSteps N table R M I hash message out m T r R' M' out' =
     (ours theirs : List ℕ) (cols : Columns)
     → let G = given N table R M I cols ours theirs hash message out in
-    Sound G → T ≡ tally_there N table R M I
+    Sound G → Some T ≡ tally_there N table R M I
     → left r R' M' I cols ours theirs out' ≡ step_said first_eight (Some m) G

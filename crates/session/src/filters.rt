@@ -41,7 +41,7 @@ pub(crate) fn on_slice(
     ensures { slice_turn' result (columns ids.new hashes.new counts.new)
         ≡ slice_turn numbers (content (Ibf slice) message.now) slice (columns ids.old hashes.old counts.old) }
 {
-    if !form::grid::admits_slice(numbers, form::grid::IBF) {
+    if !form::grid::admits_slice(numbers, message::kinds::Kind::Ibf) {
         return form::numbers::aborted(OUT_OF_TURN, numbers);
     }
     if !form::grid::is_placed(numbers, slice.size, slice.offset, slice.salt, slice.width) {
@@ -71,7 +71,7 @@ pub(crate) fn on_last(
     ensures { last_turn' result marks.new inquired.new (untouched (columns ids.new hashes.new counts.new) ours.new theirs.new) out.new
         ≡ last_turn numbers table.now (content (IbfLast slice) message.now) slice (columns ids.old hashes.old counts.old) ours.old theirs.old marks.old inquired.old out.old }
 {
-    if !form::grid::admits_slice(numbers, form::grid::LAST) {
+    if !form::grid::admits_slice(numbers, message::kinds::Kind::IbfLast) {
         return form::numbers::aborted(OUT_OF_TURN, numbers);
     }
     let Slice { size, salt, .. } = slice;

@@ -32,7 +32,7 @@ pub fn step(
     ensures { left result records.new marks.new inquired.new (columns ids.new hashes.new counts.new) ours.new theirs.new out.new
         ≡ step_call first_eight (given numbers table.now records.old marks.old inquired.old (columns ids.old hashes.old counts.old) ours.old theirs.old hash.now message.now out.old) }
 {
-    let tally = form::tallying::judge(numbers, table, records, marks, inquired, counts);
+    let judged = form::tallying::judge(numbers, table, records, marks, inquired, counts);
     let roomy = form::rooms::has_room(
         records.len(),
         marks.len(),
@@ -45,7 +45,10 @@ pub fn step(
         hash.len(),
         out.len(),
     );
-    let refusal = form::rooms::early(tally.good, roomy, numbers.state);
+    let refusal = form::rooms::early(judged.is_some(), roomy, numbers.state);
+    let Some(tally) = judged else {
+        return form::numbers::refused(refusal, numbers);
+    };
     if refusal != 0 {
         return form::numbers::refused(refusal, numbers);
     }
@@ -81,7 +84,7 @@ fn on_ledger(
     requires { InForm numbers table.now records.old marks.old inquired.now hash.now out.old tally × (exactly_one message.now ≡ Some m) × (is_slice m ≡ false) }
     ensures { LedgerSteps numbers table.now records.old marks.old inquired.now hash.now message.now out.old m tally result records.new marks.new out.new }
 {
-    if !form::grid::admits(numbers.state, column(m)) {
+    if !form::grid::admits(numbers.state, m.kind()) {
         return form::numbers::aborted(OUT_OF_TURN, numbers);
     }
     match m {
@@ -108,11 +111,4 @@ fn on_ledger(
         }
         Message::Ibf(_) | Message::IbfLast(_) => unreachable!(),
     }
-}
-
-// The grid's column of a message.
-fn column(m: Message) -> usize
-    ensures { result ≡ column_of m }
-{
-    m.kind() as usize
 }

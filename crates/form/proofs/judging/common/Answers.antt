@@ -1,6 +1,4 @@
 use mathlib.Core.Logic.{inl, inr}
-use mathlib.Core.Path.{◌≡◌}
-use lib.ListN.{get_or}
 use Rattle.form.proofs.CommonLaws.{merging_start, merging_next, merging_end}
 use Rattle.form.proofs.judging.common.Goals as goal
 

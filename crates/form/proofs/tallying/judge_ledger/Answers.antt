@@ -6,11 +6,12 @@ use Prim.Native.Nat.{ℕ, ◌*◌}
 use native.Mathlib.Omega.{arith}
 use lib.Dec.{eqb}
 use lib.ListN.{length, take, drop, length-take}
+use Rattle.std.proofs.lemmas.List.{take_min}
 use Rattle.bucket.specs.Lists.{part}
 use Rattle.filter.specs.Table.{first_eight, ids_of}
 use Rattle.ledger.specs.declared.numbers.Numbers.{Numbers}
 use Rattle.form.specs.Tallies.{tally_of, tally_there}
-use Rattle.form.proofs.JudgeLaws.{known-count, ids-count, take-there, drop-there}
+use Rattle.form.proofs.JudgeLaws.{known-count, ids-count, drop-there}
 use Rattle.form.proofs.tallying.judge_ledger.Goals as goal
 
 abbrev whole_of : Numbers → Numbers → Bool
@@ -36,7 +37,7 @@ returns c = let a = c.args in
     c.judge_part.ensures
     ∙ ap₂ (λ (m f : List ℕ). tally_of P (whole_of P a.numbers) a.table.now known m f (take P.inquired a.inquired.now))
     (ap (λ (k : ℕ). take k a.marks.now) c.min-marked.ensures
-    ∙ take-there c.count.result a.marks.now
+    ∙ take_min c.count.result a.marks.now
     ∙ ap (λ (k : ℕ). take k a.marks.now) (c.count.ensures ∙ ids-count a.table.now))
     (ap₂ (λ (k : ℕ) (l : List ℕ). take k l) n (c.split_at.ensures.back ∙ ap (λ (k : ℕ). drop k a.marks.now) c.min.ensures ∙ drop-there 4096 a.marks.now))
     ∙ ap (λ (P : Numbers).

@@ -1,7 +1,6 @@
 -- `tallying::judge_part` meets its contract: each test that fails is one of the form's, and where all hold the numbers are the definition's.
 -- Assumes nothing.
 use mathlib.Core.Path.{◌≡◌, sym, ap, ◌∙◌}
-use mathlib.Core.Bool.{true}
 use lib.Dec.{ltb}
 use Rattle.std.proofs.Common.{Some, rules, tests}
 use Rattle.std.proofs.lemmas.Iterator.{YieldsList-from_slice}

@@ -14,11 +14,12 @@ use Rattle.message.specs.Walking.{exactly_one}
 use Rattle.ledger.specs.declared.numbers.Answer.{Answer}
 use Rattle.ledger.specs.Calls.{Given, given, left, step_call, step_said}
 use Rattle.ledger.proofs.Sound.{Sound}
-use Rattle.form.specs.declared.tallying.Tally.{Tally}
+use Rattle.std.specs.Option.{is_some}
+use Rattle.std.proofs.Common.{Some}
 use Rattle.form.specs.Answers.{early_of}
 use Rattle.form.proofs.TallyLaws.{tally_given}
 use Rattle.session.specs.Judged.{InForm}
-use Rattle.session.proofs.StepLaws.{early_in, early-refused, said, sound, tally_sound}
+use Rattle.session.proofs.StepLaws.{early_in, early-refused, formless, said, sound, tally_sound}
 use Rattle.session.proofs.InFormLaws.{in_form}
 use Rattle.session.proofs.LastGranted.{slice-lays, last_ready}
 use Rattle.session.proofs.SaidTie.{slice-said, last_said}
@@ -34,11 +35,10 @@ given1 c = let a = c.args in given a.numbers a.table.now a.records.now a.marks.n
 
 first_is : (c : After-early-refusal) → c.early-refusal.result ≡ early_in (given_first c)
 first_is c = c.early-refusal.ensures
-    ∙ ap₂ (λ (g r : Bool). early_of g r (given_first c).numbers.state) (ap (λ (t : Tally). t.good) c.judge-tally.ensures.1) c.has_room-roomy.ensures
+    ∙ ap₂ (λ (g r : Bool). early_of g r (given_first c).numbers.state) (c.is_some.ensures ∙ ap is_some c.judge-judged.ensures.1) c.has_room-roomy.ensures
 
 none_first : (c : Else-refusal-ne0) → early_in (given1 c) ≡ 0
-none_first c = sym (c.early-refusal.ensures
-    ∙ ap₂ (λ (g r : Bool). early_of g r (given1 c).numbers.state) (ap (λ (t : Tally). t.good) c.judge-tally.ensures.1) c.has_room-roomy.ensures) ∙ c.if-refusal-ne0.false
+none_first c = sym (first_is (goal.at.Else-refusal-ne0 c).After-early-refusal) ∙ c.if-refusal-ne0.false
 
 sound-at : (c : Else-refusal-ne0) → Sound (given1 c)
 sound-at c = sound (given1 c) (none_first c) (λ i. (c.slice_known-1.given i).fits) (λ i. (c.slice_known-2-1.given i).fits)
@@ -48,8 +48,8 @@ said_at : (c : Else-refusal-ne0) → step_said first_eight (exactly_one (given1 
 said_at c = said (given1 c) (none_first c)
 
 -- the tally is the definition's
-tally_at : (c : Else-refusal-ne0) → c.judge-tally.result ≡ tally_given (given1 c)
-tally_at c = c.judge-tally.ensures.1 ∙ tally_sound (given1 c) (none_first c)
+tally_at : (c : Else-refusal-ne0) → Some c.in-Some.tally ≡ tally_given (given1 c)
+tally_at c = sym c.in-Some.is ∙ c.judge-judged.ensures.1 ∙ tally_sound (given1 c) (none_first c)
 
 -- the kinds but these two are no slices
 other : (m : Message) → ((t : Slice) → m ≡ Ibf t → ⊥) → ((t : Slice) → m ≡ IbfLast t → ⊥) → is_slice m ≡ false
@@ -61,9 +61,15 @@ other (Demand n) h k = refl
 other (Element n) h k = refl
 other Done h k = refl
 
+-- no tally is refusal 1
+pub returns-in_default : goal.returns-in_default
+returns-in_default c = let G = given_first (goal.at.returns-in_default c).After-early-refusal in
+    ap (λ (a : Answer). left a G.records G.marks G.inquired G.columns G.ours G.theirs G.out) c.refused.ensures
+    ∙ early-refused G (first_is (goal.at.returns-in_default c).After-early-refusal) (formless c.has_room-roomy.result c.args.numbers.state c.early-refusal.ensures (c.is_some.ensures ∙ ap is_some c.in_default.is))
+
 pub returns-then-refusal-ne0 : goal.returns-then-refusal-ne0
 returns-then-refusal-ne0 c = let G = given_first (goal.at.returns-then-refusal-ne0 c).After-early-refusal in
-    ap (λ (a : Answer). left a G.records G.marks G.inquired G.columns G.ours G.theirs G.out) c.refused.ensures
+    ap (λ (a : Answer). left a G.records G.marks G.inquired G.columns G.ours G.theirs G.out) c.refused-then-refusal-ne0.ensures
     ∙ early-refused G (first_is (goal.at.returns-then-refusal-ne0 c).After-early-refusal) (ne_eqb _ 0 c.if-refusal-ne0.true)
 
 pub returns-in_default : goal.returns-in_default
