@@ -2,7 +2,7 @@
 -- believed: laws of `session` tie what is made of them to ledger's Calls.
 use Rattle.std.specs.Prelude.{Bool, not, ◌&&◌, cond, [], ◌∷◌, ℕ, eqb, leb}
 use Rattle.filter.specs.declared.answers.Refusal.TheVariants.{Form, Room, OutOfTurn}
-use Rattle.filter.specs.Answers.{refusal_number, first_of}
+use Rattle.filter.specs.Answers.{number_of, first_of}
 use Rattle.ledger.specs.declared.numbers.Numbers.{Numbers}
 use Rattle.ledger.specs.declared.numbers.Answer.{Answer}
 use Rattle.ledger.specs.Grid.{EXPECTING_LAST, ACTIVE, PASSIVE, ABORTED, is_ended, entry}
@@ -15,7 +15,7 @@ rooms_of records marks inquired ids hashes counts ours theirs hash out =
 
 -- refusals 1 and 2 by their tests, and 5 of a session that has ended
 unfoldable pub early_of : (good roomy : Bool) → ℕ → ℕ
-early_of good roomy state = refusal_number (first_of ((Form, good) ∷ (Room, roomy) ∷ (OutOfTurn, not (is_ended state)) ∷ []))
+early_of good roomy state = number_of (first_of ((Form, good) ∷ (Room, roomy) ∷ (OutOfTurn, not (is_ended state)) ∷ []))
 
 -- ---- slices
 

@@ -34,7 +34,7 @@ pub fn start_sender(table: &[u8], size: u32, salt: u32, marks: &mut [u8], out: &
         return no_session(ROOM);
     }
     marks[..filter::table::count(table)].fill(0);
-    let sent = crate::sending::send_filter(table, size, salt, out);
+    let sent = crate::sending::send_filter(table, size, salt, out).unwrap();
     crate::numbers::answered(sent, 0, fresh(PASSIVE, 1, size, salt))
 }
 

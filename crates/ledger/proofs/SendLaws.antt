@@ -6,7 +6,8 @@ use Prim.Native.Nat.{ℕ, ◌+◌, ◌≤◌, ◌<◌, ◌%◌}
 use native.Mathlib.Omega.{arith}
 use borrow.Author.Tests.{lt-ltb, le-leb, eq-eqb}
 use lib.ListN.{length, take}
-use Rattle.std.specs.Prelude.{Result, Ok}
+use Rattle.std.specs.Prelude.{Result, Ok, IsOk}
+use Rattle.std.proofs.Common.{rules}
 use Rattle.bucket.specs.Columns.{Columns}
 use Rattle.bucket.specs.Digits.{joined}
 use Rattle.bucket.specs.Lists.{over}
@@ -22,11 +23,14 @@ abbrev pub written : List Content → ℕ → List ℕ → Write
 written cs at out = write (Ok (at + length (layouts cs))) (over at (layouts cs) out)
 
 module _ (cs : List Content) (at : ℕ) (out : List ℕ) {r : Result ℕ Refusal} {o : List ℕ} (e : write r o ≡ written cs at out) where
-  pub not_refused : r ≡ Ok (at + length (layouts cs))
-  not_refused = ap (λ (w : Write). w.answer) e
+  answers : r ≡ Ok (at + length (layouts cs))
+  answers = ap (λ (w : Write). w.answer) e
+
+  pub not_refused : IsOk r
+  not_refused = rw answers (search rules)
 
   pub sent_to : {n : ℕ} → r ≡ Ok n → (n ≡ at + length (layouts cs)) × (o ≡ over at (layouts cs) out)
-  sent_to h = let a = not_refused in (cc, ap (λ (w : Write). w.out) e)
+  sent_to h = let a = answers in (cc, ap (λ (w : Write). w.out) e)
 
 fits-within : (cs : List Content) (at : ℕ) (out : List ℕ) → at + length (layouts cs) ≤ length out → have_room cs at out ≡ true
 unfolding have_room

@@ -1,39 +1,23 @@
 -- `sending::send_filter` meets its contract: what is built in blank columns is the table's filter, and it is written whole. Assumes nothing.
-use mathlib.Core.Path.{◌∙◌}
-use Prim.Native.Nat.{◌≤◌}
-use native.Mathlib.Nat.{zero-add}
-use native.Mathlib.Omega.{arith}
-use lib.ListN.{length}
-use Rattle.filter.specs.Table.{first_eight, ids_of}
-use Rattle.ledger.specs.Session.{own_filter}
-use Rattle.ledger.proofs.SendLaws.{sent_to, not_refused}
+use mathlib.Core.Path.{ap, ◌∙◌, refl}
+use Rattle.std.specs.Prelude.{None, Some}
+use Rattle.message.specs.Writing.{write, wrote}
+use Rattle.message.proofs.WriteLaws.{handed-on}
 use Rattle.ledger.proofs.FilterRoomLaws.{own_filter_sent}
-use Rattle.form.proofs.SendingLaws.{own-short, own_unbuilt, own-built, own_put}
+use Rattle.form.proofs.SendingLaws.{own_by, own-granted}
 use Rattle.form.proofs.sending.send_filter.Goals as goal
 
-pub returns-then-out-lt65568 : goal.returns-then-out-lt65568
-returns-then-out-lt65568 c = let a = c.args in own-short a.table.now a.size a.salt a.out.now c.if-out-lt65568.true
-
-pub returns-then-refusal_number-ne0 : goal.returns-then-refusal_number-ne0
-returns-then-refusal_number-ne0 c = let a = c.args in
-    own_unbuilt a.table.now a.size a.salt a.out.now c.if-refusal_number-ne0.true c.refusal_number.ensures c.build-refusal.ensures
-
-pub returns-in_default : goal.returns-in_default
-returns-in_default c = let a = c.args in
-    let b = c.build-refusal.ensures in
-    let g = own-built a.table.now a.size a.salt a.out.now c.if-refusal_number-ne0.false c.refusal_number.ensures b in
-    let room : 65568 ≤ length a.out.now = omega (arith, c.if-out-lt65568.false) in
-    absurd
-    (not_refused (own_filter (ids_of first_eight a.table.now) a.size a.salt) 0 a.out.now
-    (own_filter_sent a.table.now a.size a.salt a.out.now g.0 g.1 room b c.filter.ensures)
-    c.in_default.is)
+pub returns-in_err-build : goal.returns-in_err-build
+unfolding wrote
+returns-in_err-build c = let a = c.args in
+    let why = c.in_err-build.field-0.0 in
+    ap (λ r. write r a.out.now) (handed-on c.from_residual.ensures)
+    ∙ own_by a.table.now a.size a.salt a.out.now (Some why) (rw c.in_err-build.was at c.build.ensures) c.if-out-lt65568.false
 
 pub returns : goal.returns
+unfolding wrote
 returns c = let a = c.args in
-    let b = c.build-refusal.ensures in
-    let g = own-built a.table.now a.size a.salt a.out.now c.if-refusal_number-ne0.false c.refusal_number.ensures b in
-    let room : 65568 ≤ length a.out.now = omega (arith, c.if-out-lt65568.false) in
-    let p = sent_to (own_filter (ids_of first_eight a.table.now) a.size a.salt) 0 a.out.now
-    (own_filter_sent a.table.now a.size a.salt a.out.now g.0 g.1 room b c.filter.ensures)
-    c.in-To.is in
-    own_put a.table.now a.size a.salt a.out.now g.0 g.1 room (p.0 ∙ zero-add _) p.1
+    let b = rw c.in_ok-build.was at c.build.ensures in
+    let g = own-granted a.table.now a.size a.salt a.out.now None b refl in
+    own_filter_sent a.table.now a.size a.salt a.out.now g.0 g.1 c.if-out-lt65568.false b c.filter.ensures
+    ∙ own_by a.table.now a.size a.salt a.out.now None b c.if-out-lt65568.false
