@@ -1,51 +1,46 @@
-use mathlib.Core.Path.{sym}
-use Prim.Native.Nat.{◌/◌, ◌<◌}
-use native.Mathlib.Omega.{arith}
-use lib.ListN.{length, take, length-take}
-use lib.Seq.{get_or-take}
-use Rattle.session.proofs.PlaceLaws.{table-short}
-use Rattle.session.proofs.OfferAllLaws.{offering_start, offered-place, offering_next, offering_end}
+use Rattle.std.proofs.Common.{rules, ◌≡◌, true, false, cond, ◌++◌, ◌+◌, ◌≤◌, ◌<◌, ltb, leb, length, take, ℕ, ◌-◌, ◌*◌, ◌/◌, ◌%◌, Bool, nat_eq, List, [], ◌∷◌, slice_index_or, slice_set, bit_and, bit_or, Fits, w8, w32, w64, Bor, MutBor}
+use Rattle.bucket.specs.Columns.{columns}
+use Rattle.bucket.specs.Digits.{packed}
+use Rattle.bucket.specs.Lists.{over}
+use Rattle.filter.specs.declared.answers.Refusal.TheVariants.{Swaps, Limit}
+use Rattle.filter.specs.Answers.{refusal_number, answer_of}
+use Rattle.filter.specs.Table.{first_eight, hashes_of, ids_of}
+use Rattle.message.specs.Reading.{content}
+use Rattle.message.specs.Walking.{exactly_one}
+use Rattle.message.specs.Writing.{inquiries_of, offers_of}
+use Rattle.session.specs.Moves.{inserted_all}
+use Rattle.session.specs.Ready.{Opens, Sent, Reads, Lays, Whole, Ended, fated, Fated}
+use Rattle.session.specs.Turns.{mark_all, hashes_at, open_turn, open_turn', slice_turn, slice_turn', last_turn, last_turn', untouched, whole_read}
 use Rattle.session.proofs.filters.offer_all.Goals as goal
-use Rattle.session.proofs.filters.offer_all.Goals.{After-id_position-p}
 
--- the element's hash is there
-there : (c : After-id_position-p) → c.id_position-p.result < length c.args.table.now / 64
-there c = let a = c.args in
-    let at = c.loop-i in
-    offered-place at.invariant c.requires.0 (omega (arith, length-take a.a a.ours.now, c.requires.1, c.loop-i-test.true))
-    (sym (get_or-take a.a a.ours.now at.i 0 c.loop-i-test.true)) c.id_position-p.ensures
-
+-- src/filters.rt:262:5
 pub loop-i-init : goal.loop-i-init
-loop-i-init c = let a = c.args in
-    offering_start a.table.now (take a.a a.ours.now) a.marks.now a.hashes.now
+loop-i-init c = ?
 
+-- src/filters.rt:264:9
 pub bounds-marks-p : goal.bounds-marks-p
-bounds-marks-p c = omega (arith, there c, table-short c.args.table.now c.requires.0.table-good, c.requires.0.marks-room, c.loop-i.invariant.same)
+bounds-marks-p c = ?
 
+-- src/filters.rt:265:60
 pub overflow_mul-p : goal.overflow_mul-p
-overflow_mul-p c = omega (arith, there c)
+overflow_mul-p c = ?
 
-pub copy-requires : goal.copy-requires
-copy-requires c = (
-  omega (arith, there (goal.at.copy-requires c).After-id_position-p),
-  omega (arith, c.loop-i-test.true, c.requires.2, c.requires.3, c.loop-i.invariant.gathering.same),
-)
+-- src/filters.rt:265:68
+pub overflow_mul-p-in-loop-i : goal.overflow_mul-p-in-loop-i
+overflow_mul-p-in-loop-i c = ?
 
+-- src/filters.rt:265:68
+pub overflow_add-p : goal.overflow_add-p
+overflow_add-p c = ?
+
+-- src/filters.rt:265:53
+pub slice_bounds-copy_from_slice-end-in-loop-i : goal.slice_bounds-copy_from_slice-end-in-loop-i
+slice_bounds-copy_from_slice-end-in-loop-i c = ?
+
+-- src/filters.rt:262:5
 pub loop-i-preserved : goal.loop-i-preserved
-loop-i-preserved c = let a = c.args in
-    let at = c.loop-i in
-    let less = c.loop-i-test.true in
-    offering_next at.invariant c.requires.0 (omega (arith, length-take a.a a.ours.now, c.requires.1, less))
-    (sym (get_or-take a.a a.ours.now at.i 0 less)) c.id_position-p.ensures
-    (λ n. (c.shared_slice_known-1.given n).fits)
-    (omega (arith, less, c.requires.2, c.requires.3)) c.copy.ensures
+loop-i-preserved c = ?
 
-pub shape_of-marks : goal.shape_of-marks
-shape_of-marks c = c.loop-i.invariant.same
-
-pub shape_of-hashes : goal.shape_of-hashes
-shape_of-hashes c = c.loop-i.invariant.gathering.same
-
+-- src/filters.rt:257:1
 pub returns : goal.returns
-returns c = let a = c.args in
-    offering_end c.loop-i.invariant (omega (arith, length-take a.a a.ours.now, c.loop-i-test.false))
+returns c = ?

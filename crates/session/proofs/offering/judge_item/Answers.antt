@@ -1,80 +1,43 @@
--- `session::offering::judge_item` meets its contract. Assumes nothing.
-use mathlib.Core.Path.{refl, sym, ap, ◌∙◌}
-use mathlib.Core.Bool.{Bool, not, ◌&&◌}
-use Prim.Native.Nat.{ℕ}
-use native.Mathlib.Omega.{arith}
-use lib.Dec.{eqb}
-use lib.ListN.{take}
-use borrow.Author.Tests.{lt-ltb, le-ltb}
+use Rattle.std.proofs.Common.{rules, ◌≡◌, IfSome, true, cond, ◌+◌, ◌*◌, ◌/◌, ◌≤◌, length, ℕ, ◌-◌, ◌<◌, ◌%◌, Bool, false, nat_eq, nat_lt, List, [], ◌∷◌, ◌++◌, slice_index_or, slice_set, bit_and, bit_or, Fits, w8, w32, w64, Bor, MutBor}
 use Rattle.bucket.specs.Digits.{joined}
-use Rattle.bucket.specs.Lists.{part}
-use Rattle.bucket.proofs.TestLaws.{and_fails, and_holds, test_refused, test_granted}
-use Rattle.filter.specs.Table.{holds}
-use Rattle.session.proofs.PlaceLaws.{place-placed}
-use Rattle.session.proofs.OfferLaws.{item_judged, found_inside, found-hash}
+use Rattle.filter.specs.Table.{first_eight, hashes_of, is_table}
+use Rattle.session.specs.Moves.{new_all, item_in, extra, stored, store_all}
+use Rattle.session.specs.Ready.{Offered}
+use Rattle.session.specs.declared.offering.Item.TheVariants.{Known, New, Bad}
 use Rattle.session.proofs.offering.judge_item.Goals as goal
 
-pub is_hash_at-requires : goal.is_hash_at-requires
-is_hash_at-requires c = let a = c.args in
-    (place-placed a.table.now a.known.now c.number_at-id.result c.requires.0 c.requires.1 c.place_of-p.ensures c.if-p-lt-NOWHERE.true, c.requires.5)
+-- src/offering.rt:64:25
+pub hash_at-requires : goal.hash_at-requires
+hash_at-requires c = ?
 
-pub returns-then-is_hash_at : goal.returns-then-is_hash_at
-returns-then-is_hash_at c = let a = c.args in
-    item_judged a.table.now a.known.now a.fresh.now (take a.k a.inquired.now) a.active a.at a.message.now c.requires.5
-    c.number_at-id.ensures c.place_of-p.ensures
-    (lt-ltb c.place_of-p.result 8192 c.if-p-lt-NOWHERE.true) (sym c.is_hash_at.ensures ∙ c.if-is_hash_at.true) refl refl refl
+-- src/offering.rt:64:9
+pub returns-in-Some : goal.returns-in-Some
+returns-in-Some c = ?
 
-pub returns-then-p-lt-NOWHERE : goal.returns-then-p-lt-NOWHERE
-returns-then-p-lt-NOWHERE c = let a = c.args in
-    item_judged a.table.now a.known.now a.fresh.now (take a.k a.inquired.now) a.active a.at a.message.now c.requires.5
-    c.number_at-id.ensures c.place_of-p.ensures
-    (lt-ltb c.place_of-p.result 8192 c.if-p-lt-NOWHERE.true) (sym c.is_hash_at.ensures ∙ c.if-is_hash_at.false) refl refl refl
+-- src/offering.rt:67:32
+pub overflow_mul-i : goal.overflow_mul-i
+overflow_mul-i c = ?
 
-pub overflow_mul-q : goal.overflow_mul-q
-overflow_mul-q c = let a = c.args in
-    omega (arith, found_inside a.fresh.now c.number_at-id.result c.id_position-q.ensures (sym c.holds_id.ensures ∙ c.if-holds_id.true), c.requires.2)
+-- src/offering.rt:67:40
+pub overflow_mul-i-in-Some-index_of : goal.overflow_mul-i-in-Some-index_of
+overflow_mul-i-in-Some-index_of c = ?
 
-pub same_hash-requires : goal.same_hash-requires
-same_hash-requires c = let a = c.args in
-    (omega (arith, found_inside a.fresh.now c.number_at-id.result c.id_position-q.ensures (sym c.holds_id.ensures ∙ c.if-holds_id.true)), c.requires.5)
+-- src/offering.rt:67:40
+pub overflow_add-i : goal.overflow_add-i
+overflow_add-i c = ?
 
-pub returns-then-same_hash : goal.returns-then-same_hash
-returns-then-same_hash c = let a = c.args in
-    let there = sym c.holds_id.ensures ∙ c.if-holds_id.true in
-    item_judged a.table.now a.known.now a.fresh.now (take a.k a.inquired.now) a.active a.at a.message.now c.requires.5
-    c.number_at-id.ensures c.place_of-p.ensures
-    (le-ltb c.place_of-p.result 8192 c.if-p-lt-NOWHERE.false) refl there
-    (ap (λ (v : ℕ). eqb v (joined 8 (part a.at 64 a.message.now))) (sym (found-hash a.fresh.now c.number_at-id.result c.id_position-q.ensures there))
-    ∙ sym c.same_hash.ensures ∙ c.if-same_hash.true)
-    refl
+-- src/offering.rt:67:25
+pub slice_bounds-eq-end : goal.slice_bounds-eq-end
+slice_bounds-eq-end c = ?
 
-pub returns-then-holds_id : goal.returns-then-holds_id
-returns-then-holds_id c = let a = c.args in
-    let there = sym c.holds_id.ensures ∙ c.if-holds_id.true in
-    item_judged a.table.now a.known.now a.fresh.now (take a.k a.inquired.now) a.active a.at a.message.now c.requires.5
-    c.number_at-id.ensures c.place_of-p.ensures
-    (le-ltb c.place_of-p.result 8192 c.if-p-lt-NOWHERE.false) refl there
-    (ap (λ (v : ℕ). eqb v (joined 8 (part a.at 64 a.message.now))) (sym (found-hash a.fresh.now c.number_at-id.result c.id_position-q.ensures there))
-    ∙ sym c.same_hash.ensures ∙ c.if-same_hash.false)
-    refl
+-- src/offering.rt:67:9
+pub returns-in-Some-index_of : goal.returns-in-Some-index_of
+returns-in-Some-index_of c = ?
 
+-- src/offering.rt:70:9
 pub returns-then-not-holds_id : goal.returns-then-not-holds_id
-returns-then-not-holds_id c = let a = c.args in
-    item_judged a.table.now a.known.now a.fresh.now (take a.k a.inquired.now) a.active a.at a.message.now c.requires.5
-    c.number_at-id.ensures c.place_of-p.ensures
-    (le-ltb c.place_of-p.result 8192 c.if-p-lt-NOWHERE.false) refl (sym c.holds_id.ensures ∙ c.if-holds_id.false) refl
-    (and_holds c.if-active.true (ap not (test_refused c.holds_id-then-active.ensures (ap not c.if-not-holds_id.true))))
+returns-then-not-holds_id c = ?
 
-pub returns-else-not-holds_id : goal.returns-else-not-holds_id
-returns-else-not-holds_id c = let a = c.args in
-    item_judged a.table.now a.known.now a.fresh.now (take a.k a.inquired.now) a.active a.at a.message.now c.requires.5
-    c.number_at-id.ensures c.place_of-p.ensures
-    (le-ltb c.place_of-p.result 8192 c.if-p-lt-NOWHERE.false) refl (sym c.holds_id.ensures ∙ c.if-holds_id.false) refl
-    (and_fails a.active (ap not (test_granted c.holds_id-then-active.ensures (ap not c.if-not-holds_id.false))))
-
-pub returns-else-active : goal.returns-else-active
-returns-else-active c = let a = c.args in
-    item_judged a.table.now a.known.now a.fresh.now (take a.k a.inquired.now) a.active a.at a.message.now c.requires.5
-    c.number_at-id.ensures c.place_of-p.ensures
-    (le-ltb c.place_of-p.result 8192 c.if-p-lt-NOWHERE.false) refl (sym c.holds_id.ensures ∙ c.if-holds_id.false) refl
-    (ap (λ (t : Bool). t && not (holds (take a.k a.inquired.now) c.number_at-id.result)) c.if-active.false)
+-- src/offering.rt:51:1
+pub returns : goal.returns
+returns c = ?
