@@ -1,12 +1,12 @@
 -- Bytes taken a chunk at a time, from the front: each is the first item of those that are left; and a part that is lent. Assumes nothing.
-use mathlib.Core.Path.{◌≡◌, refl, sym, ap, ◌∙◌}
+use mathlib.Core.Path.{◌≡◌, refl, sym, ap, subst, ◌∙◌}
 use mathlib.Core.List.{List, [], ◌∷◌, ◌++◌}
 use Prim.Native.Nat.{ℕ, zero, suc, ◌+◌, ◌-◌, ◌*◌, ◌/◌, ◌%◌, ◌≤◌, ◌<◌}
 use native.Mathlib.Nat.{mul-suc, add_comm}
 use native.Mathlib.Omega.{arith}
 use lib.ListN.{length, take, drop, get_or, length-append}
 use lib.Seq.{ext_get_or, take_all, take_at, drop_at, drop-drop}
-use Rattle.bucket.specs.Digits.{joined, groups, unpacked}
+use Rattle.bucket.specs.Digits.{joined, groups, unpacked, Below}
 use borrow.Rule.Slice.PartMut.{put_mid}
 use Rattle.bucket.specs.Lists.{over, part}
 use Rattle.bucket.specs.Crc.{tabulated}
@@ -15,7 +15,7 @@ use Rattle.bucket.proofs.OverLaws.{over-part, part_length}
 use Rattle.bucket.proofs.PackedLaws.{unpacked-length}
 use Rattle.filter.specs.Table.{hash_at, hashes_of}
 use Rattle.filter.proofs.TableLaws.{hashes-length, hash_at_lem}
-use Rattle.message.proofs.WholeLaws.{item}
+use Rattle.message.proofs.WholeLaws.{item, take_below, drop-below}
 
 module _ (k : ℕ) (x rest : List ℕ) (size : length x ≡ k) where
   part_front : part (k * 0) k (x ++ rest) ≡ x
@@ -44,6 +44,14 @@ items-cons k n x rest size whole =
     each (suc i) h =
         let l : i < n = omega (arith, unpacked-length (8 * k) (n + 1) (x ++ rest)) in
         item k (n + 1) (x ++ rest) (suc i) (omega arith) long ∙ ap (joined 8) (part_behind k x rest size i) ∙ sym (item k n rest i l whole)
+
+-- bytes that are numbers of eight bits
+module _ (x rest : List ℕ) {bytes : List ℕ} (e : bytes ≡ x ++ rest) (below : Below 8 bytes) where
+  pub front-below : Below 8 x
+  front-below = subst (Below 8) (ap (take (length x)) e ∙ take_at x rest (length x) refl) (take_below 8 (length x) bytes below)
+
+  pub rest-below : Below 8 rest
+  rest-below = subst (Below 8) (ap (drop (length x)) e ∙ drop_at x rest (length x) refl) (drop-below 8 (length x) bytes below)
 
 -- hashes
 pub hashes-cons : (x rest : List ℕ) {bytes : List ℕ} → bytes ≡ x ++ rest → length x ≡ 64 → hashes_of bytes ≡ joined 8 x ∷ hashes_of rest

@@ -22,7 +22,7 @@ use Rattle.filter.specs.Sets.{insert}
 use Rattle.session.specs.Ready.{Offered}
 use Rattle.std.specs.Prelude.{Some}
 use Rattle.ledger.proofs.PointLaws.{insert-length}
-use Rattle.session.proofs.PlaceLaws.{holds-within, place_here}
+use Rattle.session.proofs.PlaceLaws.{holds-within, index-within, place_here}
 use Rattle.filter.proofs.SetLaws.{◌∈◌, clash, not_in_nil, elem-insert}
 use Rattle.filter.proofs.ListLaws.{in_map, map_in, map-distinct}
 use Rattle.session.proofs.StoreLaws.{Fresh, fresh-first, fresh-next, known-ids, hash_inserted}
@@ -48,13 +48,10 @@ module _ (table known fresh I : List ℕ) (active : Bool) (h : ℕ) {id p : ℕ}
       (active && not (holds I x)))
       read (place_here table known h read is))
 
--- a search that found
-module _ (t : List ℕ) (x : ℕ) {q : ℕ} (is : q ≡ position (ids_of first_eight t) x) (there : holds (ids_of first_eight t) x ≡ true) where
-  pub found_inside : q < length t / 64
-  found_inside = omega (arith, is, holds-within (ids_of first_eight t) x there, ids-length first_eight t)
-
-  pub found-hash : joined 8 (part (64 * q) 64 t) ≡ get_or (hashes_of t) (position (ids_of first_eight t) x) 0
-  found-hash = sym (hash_at_lem t q found_inside) ∙ ap (λ (k : ℕ). get_or (hashes_of t) k 0) is
+-- the hash that a search found
+pub found-hash : (t : List ℕ) (x : ℕ) {i : ℕ} → (i ≡ position (ids_of first_eight t) x) × (holds (ids_of first_eight t) x ≡ true)
+    → joined 8 (part (64 * i) 64 t) ≡ get_or (hashes_of t) (position (ids_of first_eight t) x) 0
+found-hash t x {i} f = sym (hash_at_lem t i (index-within t x f)) ∙ ap (λ (k : ℕ). get_or (hashes_of t) k 0) f.0
 
 -- ---- the new ones so far, in their order and ascending
 

@@ -10,7 +10,7 @@ use lib.Seq.{take_all}
 use borrow.Author.Tests.{eqb-true, lt-ltb, le-ltb, ltb-true, ltb-false, le-leb, lt-leb, leb-true, leb-false, eq-eqb, ne_eqb}
 use Rattle.bucket.specs.Digits.{joined, groups, Below}
 use Rattle.bucket.specs.Lists.{part}
-use Rattle.bucket.proofs.DigitLaws.{groups-joined, joined-groups, groups-length}
+use Rattle.bucket.proofs.DigitLaws.{groups-below, groups-joined, joined-groups, groups-length}
 use Rattle.message.proofs.RoundLaws.{hashes-below}
 use Rattle.bucket.proofs.OverLaws.{part_length, part_suc}
 use Rattle.bucket.proofs.TestLaws.{and_fails, and_holds, cond-kept, cond-made}
@@ -183,23 +183,17 @@ bytes_back at l room below =
     ap (λ (n : ℕ). groups 8 n (joined 8 (part at 64 l))) (sym (part_length at l 64 room)) ∙ groups-joined 8 (part at 64 l) (part-below at 64 l below)
 
 -- bytes are the same where the numbers in them are
-pub same_hash : (h : List ℕ) (x : ℕ) → length h ≡ 64 → Below 8 h → x < 2 ^ 512 → pointwise eqb (groups 8 64 x) h ≡ eqb x (joined 8 h)
-same_hash h x size below short =
-    same_test (pointwise eqb (groups 8 64 x) h) (eqb x (joined 8 h))
-    (λ e. eq-eqb x (joined 8 h) (sym (joined-groups 8 64 x ∙ mod-eq_of_lt short) ∙ ap (joined 8) (bytes_eq-true e)))
-    (λ e. bytes_eq-same (ap (groups 8 64) (eqb-true x (joined 8 h) e) ∙ back))
+pub same_bytes : (a b : List ℕ) → length a ≡ 64 → length b ≡ 64 → Below 8 a → Below 8 b → pointwise eqb a b ≡ eqb (joined 8 a) (joined 8 b)
+same_bytes a b size-a size-b below-a below-b =
+    same_test (pointwise eqb a b) (eqb (joined 8 a) (joined 8 b))
+    (λ e. eq-eqb (joined 8 a) (joined 8 b) (ap (joined 8) (decides.0 e)))
+    (λ e. decides.1 (sym (back a size-a below-a) ∙ ap (groups 8 64) (eqb-true (joined 8 a) (joined 8 b) e) ∙ back b size-b below-b))
   where
-    back : groups 8 64 (joined 8 h) ≡ h
-    back = ap (λ (n : ℕ). groups 8 n (joined 8 h)) (sym size) ∙ groups-joined 8 h below
+    back : (l : List ℕ) → length l ≡ 64 → Below 8 l → groups 8 64 (joined 8 l) ≡ l
+    back l size below = ap (λ (n : ℕ). groups 8 n (joined 8 l)) (sym size) ∙ groups-joined 8 l below
 
-    decides : Decides (pointwise eqb (groups 8 64 x) h) (groups 8 64 x ≡ h)
-    decides = bytes_eq-Decides (groups 8 64 x) h
-
-    bytes_eq-true : pointwise eqb (groups 8 64 x) h ≡ true → groups 8 64 x ≡ h
-    bytes_eq-true = decides.0
-
-    bytes_eq-same : groups 8 64 x ≡ h → pointwise eqb (groups 8 64 x) h ≡ true
-    bytes_eq-same = decides.1
+    decides : Decides (pointwise eqb a b) (a ≡ b)
+    decides = bytes_eq-Decides a b
 
 -- ---- the hash at a place
 
@@ -240,7 +234,11 @@ module _ (table known : List ℕ) (p : ℕ) where
 
     pub place-same : (h : List ℕ) → length h ≡ 64 → Below 8 h → pointwise eqb bs h ≡ eqb (hash_at_place (hashes_of table) (hashes_of known) p) (joined 8 h)
     place-same h size below =
-        ap (λ (l : List ℕ). pointwise eqb l h) there ∙ same_hash h (hash_at_place (hashes_of table) (hashes_of known) p) size below place-short
+        same_bytes bs h place-size size (rw there (groups-below 8 64 x)) below
+        ∙ ap (λ (n : ℕ). eqb n (joined 8 h)) (ap (joined 8) there ∙ joined-groups 8 64 x ∙ mod-eq_of_lt place-short)
+      where
+        x : ℕ
+        x = hash_at_place (hashes_of table) (hashes_of known) p
 
 -- ---- the place of a hash
 

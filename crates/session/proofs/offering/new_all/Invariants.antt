@@ -1,10 +1,13 @@
-use Rattle.std.proofs.Common.{◌≡◌, IfSome, true, cond, ◌+◌, ◌*◌, ◌/◌, ◌≤◌, length, ℕ, ◌-◌, ◌<◌}
-use Rattle.bucket.specs.Digits.{joined}
-use Rattle.filter.specs.Table.{first_eight, hashes_of, is_table}
-use Rattle.session.specs.Moves.{new_all, item_in, extra, stored, store_all}
-use Rattle.session.specs.Ready.{Offered}
-use Rattle.session.specs.declared.offering.Item.TheVariants.{Known, New, Bad}
+-- `offering::new_all` meets its contract. The invariant: the walk has the hashes left that the iterator has. Assumes nothing.
+use mathlib.Core.Path.{◌≡◌}
+use Rattle.bucket.specs.Digits.{Below}
+use Rattle.filter.specs.Table.{hashes_of}
+use Rattle.session.proofs.OfferLaws.{Offering}
 use Rattle.session.proofs.offering.new_all.Given as goal
 
 abbrev pub invariant-loop-hash : goal.invariant-loop-hash
-invariant-loop-hash l = ?
+invariant-loop-hash l = record {
+  size : l.hash-iterator.size ≡ 64;
+  bytes : Below 8 l.hash-iterator.rest.now;
+  walk : Offering l.table l.known l.inquired l.active (hashes_of l.offered) l.initial.fresh l.initial.hashes l.fresh l.hashes l.m (hashes_of l.hash-iterator.rest.now)
+}

@@ -1,31 +1,38 @@
-use Rattle.std.proofs.Common.{rules, ◌≡◌, IfSome, true, cond, ◌+◌, ◌*◌, ◌/◌, ◌≤◌, length, ℕ, ◌-◌, ◌<◌, ◌%◌, Bool, false, nat_eq, nat_lt, List, [], ◌∷◌, ◌++◌, slice_index_or, slice_set, bit_and, bit_or, Fits, w8, w32, w64, Bor, MutBor}
+use mathlib.Core.Path.{◌≡◌, refl, sym, ap, ◌∙◌}
+use mathlib.Core.List.{◌∷◌}
+use native.Mathlib.Omega.{arith}
+use lib.ListN.{length, length-append}
 use Rattle.bucket.specs.Digits.{joined}
-use Rattle.filter.specs.Table.{first_eight, hashes_of, is_table}
-use Rattle.session.specs.Moves.{new_all, item_in, extra, stored, store_all}
-use Rattle.session.specs.Ready.{Offered}
-use Rattle.session.specs.declared.offering.Item.TheVariants.{Known, New, Bad}
+use Rattle.bucket.proofs.DigitLaws.{groups-joined}
+use Rattle.filter.specs.Table.{hashes_of}
+use Rattle.session.proofs.ChunkLaws.{front-below, rest-below, hashes-cons, hashes_none}
+use Rattle.session.proofs.GatheredLaws.{putting_start, putting_next, putting_end}
 use Rattle.session.proofs.offering.store_all.Goals as goal
 
--- src/offering.rt:98:5
 pub loop-hash-init : goal.loop-hash-init
-loop-hash-init c = ?
+loop-hash-init c = let a = c.args in
+    rw (c.into_iter-hash-iterator.ensures.into_iter_gives, c.chunks_exact-hash-items.ensures.rest, c.chunks_exact-hash-items.ensures.size) record {
+      size = refl;
+      bytes = λ i. (c.type_inv.hashes i).fits;
+      room = c.requires.2;
+      put = putting_start a.n (hashes_of a.hashes.now) a.records.now a.marks.now;
+    }
 
--- src/offering.rt:99:13
-pub insert_hash-p-requires : goal.insert_hash-p-requires
-insert_hash-p-requires c = ?
-
--- src/offering.rt:100:9
-pub insert_mark-requires : goal.insert_mark-requires
-insert_mark-requires c = ?
-
--- src/offering.rt:101:9
-pub overflow_add-n : goal.overflow_add-n
-overflow_add-n c = ?
-
--- src/offering.rt:98:5
 pub loop-hash-preserved : goal.loop-hash-preserved
-loop-hash-preserved c = ?
+loop-hash-preserved c = let at = c.loop-hash.invariant in
+    let step = c.in-Some.ensures.steps in
+    let h = c.in-Some.hash.now in
+    let rest = c.next.new.self.rest.now in
+    let size : length h ≡ 64 = step.1.1 ∙ at.size in
+    let put = c.insert_hash-p.ensures in
+    record {
+      size = step.0 ∙ at.size;
+      bytes = rest-below h rest step.1.0 at.bytes;
+      room = omega (arith, at.room, ap length step.1.0, length-append h rest, size);
+      put =
+          putting_next at.put (hashes-cons h rest step.1.0 size) (rw size at (groups-joined 8 h (front-below h rest step.1.0 at.bytes)))
+          put.0 put.2 c.insert_mark.ensures c.insert_hash-p.auto.hashes c.insert_mark.auto.marks;
+    }
 
--- src/offering.rt:94:1
 pub returns : goal.returns
-returns c = ?
+returns c = putting_end c.loop-hash.invariant.put (hashes_none c.loop-hash.hash-iterator.rest.now (omega (arith, c.in-None.ensures.steps.1.0, c.loop-hash.invariant.size)))
