@@ -105,6 +105,9 @@ ids_none bytes short =
     let none : length bytes / 8 ≡ 0 = omega arith in
     ap (λ (n : ℕ). unpacked 64 n bytes) none
 
+pub ids_whole : (n : ℕ) (bytes : List ℕ) → length bytes ≡ 8 * n → ids_in bytes ≡ unpacked 64 n bytes
+ids_whole n bytes whole = let count : length bytes / 8 ≡ n = omega arith in ap (λ (m : ℕ). unpacked 64 m bytes) count
+
 -- ---- a part lent
 
 module _ {A : Type 0} (at k : ℕ) (l : List A) where
@@ -117,3 +120,10 @@ module _ {A : Type 0} (at k : ℕ) (l : List A) where
   -- and written over
   pub lent_over : (xs : List A) → length xs ≡ k → put_mid at (at + k - at) l xs ≡ over at xs l
   lent_over xs size = over-part at (at + k) xs l (ap (λ (n : ℕ). at + n) size)
+
+-- the items of a message
+pub ids_lent : (n : ℕ) (message : List ℕ) → 8 + 8 * n ≤ length message → ids_in (take (8 + 8 * n - 8) (drop 8 message)) ≡ unpacked 64 n (part 8 (8 * n) message)
+ids_lent n message room = ap ids_in (lent 8 (8 * n) message) ∙ ids_whole n (part 8 (8 * n) message) (part_length 8 message (8 * n) room)
+
+pub hashes_lent : (n : ℕ) (message : List ℕ) → 4 + 64 * n ≤ length message → hashes_of (take (4 + 64 * n - 4) (drop 4 message)) ≡ unpacked 512 n (part 4 (64 * n) message)
+hashes_lent n message room = ap hashes_of (lent 4 (64 * n) message) ∙ hashes_whole n (part 4 (64 * n) message) (part_length 4 message (64 * n) room)

@@ -84,10 +84,13 @@ pub(crate) fn count_extra(hashes: &[u8], inquired: &[u64]) -> usize
     requires { length inquired.now ≤ 4096 }
     ensures { (result ≡ extra first_eight inquired.now (hashes_of hashes.now)) × (result ≤ length hashes.now / 64) }
 {
-    hashes
-        .chunks_exact(64)
-        .filter(|hash| !crate::inserting::holds_id(inquired, bucket::bytes::number_at(hash, 0, 8)))
-        .count()
+    let mut n: usize = 0;
+    for hash in hashes.chunks_exact(64) {
+        if !crate::inserting::holds_id(inquired, bucket::bytes::number_at(hash, 0, 8)) {
+            n += 1;
+        }
+    }
+    n
 }
 
 // The gathered hashes put among the n demanded ones, with a mark each.
