@@ -8,7 +8,7 @@ use lib.Bits.{bit_xor, xor_lt}
 use lib.ListN.{length, take}
 use lib.Pow.{pow_pos}
 use lib.Seq.{take_all}
-use Rattle.bucket.specs.Digits.{joined, packed}
+use Rattle.bucket.specs.Digits.{joined, packed, Below}
 use Rattle.bucket.specs.Lists.{part}
 use Rattle.bucket.proofs.ListLaws.{elem-head, elem_tail}
 use Rattle.bucket.proofs.PackedLaws.{packed-below}
@@ -18,6 +18,9 @@ use Rattle.ledger.specs.Memory.{is_met, marked}
 use Rattle.ledger.proofs.BelowLaws.{Fit, hashes-fit, xor_fit}
 use Rattle.session.specs.Moves.{check_of}
 use Rattle.session.specs.Ready.{Sum}
+use Rattle.session.proofs.PlaceLaws.{same_bytes}
+use Rattle.std.specs.Cmp.Lexicographic.{pointwise}
+use lib.Dec.{eqb}
 
 met-short : (K fs : List ℕ) → Fit 512 K → foldr bit_xor 0 (marked is_met K fs) < 2 ^ 512
 unfolding marked
@@ -48,6 +51,11 @@ bytes-sum x acc e short = rw e record { sum = number; size = whole_length 64 (x 
 -- and the number of them
 pub sum_number : (x : ℕ) (acc : List ℕ) → Sum x acc → joined 8 (part 0 64 acc) ≡ x
 sum_number x acc s = ap (joined 8) (take_all 64 acc (omega (arith, s.size))) ∙ s.sum
+
+-- compared with bytes that came
+pub sum_same : (far : List ℕ) (x : ℕ) (acc : List ℕ) → length far ≡ 64 → Below 8 far → Sum x acc → pointwise eqb far acc ≡ eqb (joined 8 far) (joined 8 (take 64 acc))
+sum_same far x acc size below s =
+    same_bytes far acc size s.size below s.fit ∙ ap (λ (l : List ℕ). eqb (joined 8 far) (joined 8 l)) (sym (take_all 64 acc (omega (arith, s.size))))
 
 -- the checksum of the table and of the met ones of the first n hashes of records
 abbrev pub check_in : List ℕ → ℕ → List ℕ → List ℕ → ℕ

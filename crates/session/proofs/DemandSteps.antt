@@ -12,10 +12,9 @@ use Rattle.message.proofs.WholeLaws.{part-below, whole_back}
 use Rattle.ledger.specs.declared.numbers.Numbers.{Numbers}
 use Rattle.ledger.specs.declared.numbers.Answer.{Answer}
 use Rattle.session.specs.Moves.{Walk, serve_all}
-use Rattle.session.specs.Ready.{Walked}
+use Rattle.session.specs.Ready.{Served}
 use Rattle.form.specs.Answers.{aborted, changed}
 use Rattle.session.specs.Turns.{MarkTurn, mark_turn, demand_turn}
-use Rattle.session.proofs.CopyLaws.{copied_out, copied_back}
 
 module _ (N : Numbers) (t K hs M out : List ℕ) where
   abbrev answer : ℕ → Answer
@@ -28,25 +27,23 @@ module _ (N : Numbers) (t K hs M out : List ℕ) where
   unfolding demand_turn
   demand_decided e = ap (λ (b : Bool). cond b taken (mark_turn (aborted 7 N) M out)) (sym e)
 
-  module _ (room : 8192 ≤ length M) {work work' : List ℕ} {fine : Bool}
-      (copied : work ≡ over 0 (part 0 8192 M) (replicate 8192 0)) (walked : Walked (serve_all first_eight t K hs work) fine 0 work' [] []) where
+  module _ {work work' : List ℕ} {fine : Bool} (copied : work ≡ take 8192 M) (walked : Served (serve_all first_eight t K hs work) fine work') where
     same-walk : serve_all first_eight t K hs work ≡ serve_all first_eight t K hs (take 8192 M)
-    same-walk = ap (serve_all first_eight t K hs) (copied ∙ copied_out 8192 M (replicate 8192 0) (length-replicate {A = ℕ} 8192 0) room)
+    same-walk = ap (serve_all first_eight t K hs) copied
 
     fine-walk : (serve_all first_eight t K hs (take 8192 M)).fine ≡ fine
-    fine-walk = sym (walked.fine_is ∙ ap (λ (w : Walk). w.fine) same-walk)
+    fine-walk = sym (walked.0 ∙ ap (λ (w : Walk). w.fine) same-walk)
 
     pub demand_bad : {r : Answer} → fine ≡ false → r ≡ aborted 7 N → mark_turn r M out ≡ demand_turn N t K hs M out
     demand_bad e is = ap (λ (r : Answer). mark_turn r M out) is ∙ demand_decided (fine-walk ∙ e)
 
-    pub demand-taken : {r : Answer} {M' out' : List ℕ} → fine ≡ true → length work' ≡ 8192
-        → r ≡ answer (length hs) → M' ≡ over 0 (part 0 8192 work') M → out' ≡ over 0 (packed 512 hs) out
+    pub demand-taken : {r : Answer} {M' out' : List ℕ} → fine ≡ true → r ≡ answer (length hs) → M' ≡ over 0 work' M → out' ≡ over 0 (packed 512 hs) out
         → mark_turn r M' out' ≡ demand_turn N t K hs M out
-    demand-taken {r} {M'} e long is back sent =
+    demand-taken {r} {M'} e is back sent =
         (λ i. mark_turn (is i) (marked i) (sent i)) ∙ demand_decided (fine-walk ∙ e)
       where
         marked : M' ≡ over 0 (serve_all first_eight t K hs (take 8192 M)).marks M
-        marked = back ∙ copied_back 8192 M work' long ∙ ap (λ (l : List ℕ). over 0 l M) (walked.marks_are e ∙ ap (λ (w : Walk). w.marks) same-walk)
+        marked = back ∙ ap (λ (l : List ℕ). over 0 l M) (walked.1 e ∙ ap (λ (w : Walk). w.marks) same-walk)
 
 -- the hashes demanded are the bytes that came
 pub demand-bytes : (n : ℕ) (message out : List ℕ) {out' : List ℕ} → Below 8 message → 4 + 64 * n ≤ length message → out' ≡ over 0 (part 4 (64 * n) message) out

@@ -20,7 +20,7 @@ use Rattle.session.specs.Moves.{Walk, ask_all}
 use Rattle.session.specs.Ready.{Walked}
 use Rattle.form.specs.Answers.{aborted, changed}
 use Rattle.session.specs.Turns.{MarkTurn, mark_turn, inquiry_turn}
-use Rattle.session.proofs.CopyLaws.{copied_out, copied_back}
+use Rattle.std.specs.Prelude.{Some}
 use Rattle.ledger.proofs.RoomLaws.{offers-room}
 use Rattle.session.proofs.WalkedLaws.{Asked, asked-all}
 
@@ -30,42 +30,42 @@ abbrev asked : List ℕ → List ℕ → List ℕ → List ℕ → Walk
 asked table known xs M = ask_all first_eight (hashes_of table) (hashes_of known) xs (take 8192 M)
 
 -- what it leaves in the copy of the marks and in the room for hashes
-pub record Inquired (table known xs M : List ℕ) (fine : Bool) (count : ℕ) (work bytes : List ℕ) : Type 0 where
-  pub judged : (asked table known xs M).fine ≡ fine
-  pub few : fine ≡ true → count ≤ 4096
-  pub long : fine ≡ true → length work ≡ 8192
-  pub marks : fine ≡ true → work ≡ (asked table known xs M).marks
-  pub hashes : fine ≡ true → hashes_of (take (64 * count) bytes) ≡ (asked table known xs M).hashes
-  pub room : fine ≡ true → length (layouts (offers_of (hashes_of (take (64 * count) bytes)))) ≤ 262164
+pub record Inquired (table known xs M : List ℕ) (count : ℕ) (work bytes : List ℕ) : Type 0 where
+  pub judged : (asked table known xs M).fine ≡ true
+  pub few : count ≤ 4096
+  pub long : length work ≡ 8192
+  pub marks : work ≡ (asked table known xs M).marks
+  pub hashes : hashes_of (take (64 * count) bytes) ≡ (asked table known xs M).hashes
+  pub room : length (layouts (offers_of (hashes_of (take (64 * count) bytes)))) ≤ 262164
 
-pub inquired : (table known xs M work₀ : List ℕ) {work work' bytes₀ bytes : List ℕ} {fine : Bool} {count : ℕ} → 8192 ≤ length M → length work₀ ≡ 8192 → length bytes₀ ≡ 262144
-    → work ≡ over 0 (part 0 8192 M) work₀ → Walked (ask_all first_eight (hashes_of table) (hashes_of known) xs work) fine count work' bytes bytes₀
-    → Inquired table known xs M fine count work' bytes
-inquired table known xs M work₀ {work} {work'} {bytes₀} {bytes} {fine} {count} room long large copied walked = record {
-  judged = sym (walked.fine_is ∙ ap (λ (w : Walk). w.fine) same);
-  few = λ e. omega (arith, many e, kept.few);
-  long = λ e. ap length (marked e) ∙ kept.same;
-  marks = marked;
-  hashes = gathered;
-  room = λ e. rw (gathered e) (offers-room (asked table known xs M).hashes kept.few);
-}
-  where
-    same : ask_all first_eight (hashes_of table) (hashes_of known) xs work ≡ asked table known xs M
-    same = ap (ask_all first_eight (hashes_of table) (hashes_of known) xs) (copied ∙ copied_out 8192 M work₀ long room)
+module _ (table known xs M : List ℕ) {work : List ℕ} (copied : work ≡ take 8192 M) where
+  same : ask_all first_eight (hashes_of table) (hashes_of known) xs work ≡ asked table known xs M
+  same = ap (ask_all first_eight (hashes_of table) (hashes_of known) xs) copied
 
-    kept : Asked 8192 (asked table known xs M)
-    kept = rw (length-take-le 8192 M room) at (asked-all table known xs (take 8192 M))
+  pub not-inquired : (ask_all first_eight (hashes_of table) (hashes_of known) xs work).fine ≡ false → (asked table known xs M).fine ≡ false
+  not-inquired e = sym (ap (λ (w : Walk). w.fine) same) ∙ e
 
-    many : fine ≡ true → count ≡ length (asked table known xs M).hashes
-    many e = walked.count_is e ∙ ap (λ (w : Walk). length w.hashes) same
+  pub inquired : {work' bytes₀ bytes : List ℕ} {count : ℕ} → 8192 ≤ length M → length bytes₀ ≡ 262144
+      → Walked (ask_all first_eight (hashes_of table) (hashes_of known) xs work) (Some count) work' bytes bytes₀ → Inquired table known xs M count work' bytes
+  inquired {work'} {bytes₀} {bytes} {count} room large (walked, marked) = record {
+    judged = sym (ap (λ (w : Walk). w.fine) same) ∙ walked.good;
+    few = omega (arith, many, kept.few);
+    long = ap length (marked ∙ ap (λ (w : Walk). w.marks) same) ∙ kept.same;
+    marks = marked ∙ ap (λ (w : Walk). w.marks) same;
+    hashes = gathered;
+    room = rw gathered (offers-room (asked table known xs M).hashes kept.few);
+  }
+    where
+      kept : Asked 8192 (asked table known xs M)
+      kept = rw (length-take-le 8192 M room) at (asked-all table known xs (take 8192 M))
 
-    marked : fine ≡ true → work' ≡ (asked table known xs M).marks
-    marked e = walked.marks_are e ∙ ap (λ (w : Walk). w.marks) same
+      many : count ≡ length (asked table known xs M).hashes
+      many = walked.count ∙ ap (λ (w : Walk). length w.hashes) same
 
-    gathered : fine ≡ true → hashes_of (take (64 * count) bytes) ≡ (asked table known xs M).hashes
-    gathered e =
-        ap₂ (λ (n : ℕ) (l : List ℕ). hashes_of (take (64 * n) l)) (many e) (walked.bytes_are e ∙ ap (λ (w : Walk). over 0 (packed 512 w.hashes) bytes₀) same)
-        ∙ hashes-written (asked table known xs M).hashes bytes₀ kept.short (omega (arith, kept.few))
+      gathered : hashes_of (take (64 * count) bytes) ≡ (asked table known xs M).hashes
+      gathered =
+          ap₂ (λ (n : ℕ) (l : List ℕ). hashes_of (take (64 * n) l)) many (walked.bytes-are ∙ ap (λ (w : Walk). over 0 (packed 512 w.hashes) bytes₀) same)
+          ∙ hashes-written (asked table known xs M).hashes bytes₀ kept.short (omega (arith, kept.few))
 
 -- ---- the ways through
 
@@ -91,24 +91,24 @@ module _ (N : Numbers) (table known : List ℕ) (salt : ℕ) (xs M out : List �
   pub inquiry-salted : {r : Answer} → (salt ≡ N.salt → ⊥) → r ≡ aborted 7 N → mark_turn r M out ≡ turn
   inquiry-salted f is = ap (λ (r : Answer). mark_turn r M out) is ∙ decided (ne_eqb salt N.salt f) refl
 
-  module _ (same : salt ≡ N.salt) {fine : Bool} {count : ℕ} {work bytes : List ℕ} (went : Inquired table known xs M fine count work bytes) where
-    pub inquiry_bad : {r : Answer} → fine ≡ false → r ≡ aborted 7 N → mark_turn r M out ≡ turn
-    inquiry_bad e is = ap (λ (r : Answer). mark_turn r M out) is ∙ decided (eq-eqb salt N.salt same) (went.judged ∙ e)
+  module _ (same : salt ≡ N.salt) where
+    pub inquiry_bad : {r : Answer} → (asked table known xs M).fine ≡ false → r ≡ aborted 7 N → mark_turn r M out ≡ turn
+    inquiry_bad e is = ap (λ (r : Answer). mark_turn r M out) is ∙ decided (eq-eqb salt N.salt same) e
 
-    pub inquiry-taken : {r : Answer} {sent : ℕ} {M' out' : List ℕ} → fine ≡ true → r ≡ answer sent → M' ≡ over 0 (part 0 8192 work) M
+    pub inquiry-taken : {count : ℕ} {work bytes : List ℕ} → Inquired table known xs M count work bytes → {r : Answer} {sent : ℕ} {M' out' : List ℕ} → r ≡ answer sent → M' ≡ over 0 work M
         → (sent ≡ 0 + length (layouts (offers_of (hashes_of (take (64 * count) bytes))))) × (out' ≡ over 0 (layouts (offers_of (hashes_of (take (64 * count) bytes)))) out)
         → mark_turn r M' out' ≡ turn
-    inquiry-taken {r} {sent} {M'} {out'} e is back (many, wrote) =
-        (λ i. mark_turn ((is ∙ ap answer long) i) (marks i) (written i)) ∙ decided (eq-eqb salt N.salt same) (went.judged ∙ e)
+    inquiry-taken {count} {work} {bytes} went {r} {sent} {M'} {out'} is back (many, wrote) =
+        (λ i. mark_turn ((is ∙ ap answer long) i) (marks i) (written i)) ∙ decided (eq-eqb salt N.salt same) went.judged
       where
         w : Walk
         w = asked table known xs M
 
         long : sent ≡ length (layouts (offers_of w.hashes))
-        long = many ∙ zero-add (length (layouts (offers_of (hashes_of (take (64 * count) bytes))))) ∙ ap (λ (hs : List ℕ). length (layouts (offers_of hs))) (went.hashes e)
+        long = many ∙ zero-add (length (layouts (offers_of (hashes_of (take (64 * count) bytes))))) ∙ ap (λ (hs : List ℕ). length (layouts (offers_of hs))) went.hashes
 
         marks : M' ≡ over 0 w.marks M
-        marks = back ∙ copied_back 8192 M work (went.long e) ∙ ap (λ (l : List ℕ). over 0 l M) (went.marks e)
+        marks = back ∙ ap (λ (l : List ℕ). over 0 l M) went.marks
 
         written : out' ≡ over 0 (layouts (offers_of w.hashes)) out
-        written = wrote ∙ ap (λ (hs : List ℕ). over 0 (layouts (offers_of hs)) out) (went.hashes e)
+        written = wrote ∙ ap (λ (hs : List ℕ). over 0 (layouts (offers_of hs)) out) went.hashes

@@ -1,5 +1,6 @@
 -- The laws of the crate `session`, for its own proofs: what its functions compute is what `ledger` says.
 pub mod AskLaws
+pub mod ChunkLaws
 pub mod MoveUpLaws
 pub mod InsertLaws
 pub mod PutInLaws

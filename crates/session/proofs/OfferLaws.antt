@@ -20,8 +20,9 @@ use Rattle.session.specs.declared.offering.Item.TheVariants.{Known, New, Bad}
 use Rattle.session.specs.Moves.{place_of, hash_at_place, item_in, hash_into, News, news_of, is_good, new_one, new_all}
 use Rattle.filter.specs.Sets.{insert}
 use Rattle.session.specs.Ready.{Offered}
+use Rattle.std.specs.Prelude.{Some}
 use Rattle.ledger.proofs.PointLaws.{insert-length}
-use Rattle.session.proofs.PlaceLaws.{holds-within, place_here}
+use Rattle.session.proofs.PlaceLaws.{holds-within, index-within, place_here}
 use Rattle.filter.proofs.SetLaws.{◌∈◌, clash, not_in_nil, elem-insert}
 use Rattle.filter.proofs.ListLaws.{in_map, map_in, map-distinct}
 use Rattle.session.proofs.StoreLaws.{Fresh, fresh-first, fresh-next, known-ids, hash_inserted}
@@ -33,28 +34,24 @@ use Rattle.session.proofs.AskLaws.{Going, going_start, going_next, going-stops, 
 abbrev judged : (a b c d e : Bool) → Item
 judged a b c d e = cond a (cond b Known Bad) (cond c (cond d Known Bad) (cond e Bad New))
 
-module _ (table known fresh I : List ℕ) (active : Bool) (at : ℕ) (s : List ℕ) (room : at + 64 ≤ length s) {id p : ℕ}
-    (read : id ≡ joined 8 (part at 8 s)) (is : p ≡ place_of (ids_of first_eight table) (ids_of first_eight known) id) where
-  pub item_judged : {a b c d e : Bool} → ltb p 8192 ≡ a → eqb (hash_at_place (hashes_of table) (hashes_of known) p) (joined 8 (part at 64 s)) ≡ b
-      → holds (ids_of first_eight fresh) id ≡ c → eqb (get_or (hashes_of fresh) (position (ids_of first_eight fresh) id) 0) (joined 8 (part at 64 s)) ≡ d
+module _ (table known fresh I : List ℕ) (active : Bool) (h : ℕ) {id p : ℕ} (read : id ≡ first_eight h) (is : p ≡ place_of (ids_of first_eight table) (ids_of first_eight known) id) where
+  pub item_judged : {a b c d e : Bool} → ltb p 8192 ≡ a → eqb (hash_at_place (hashes_of table) (hashes_of known) p) h ≡ b
+      → holds (ids_of first_eight fresh) id ≡ c → eqb (get_or (hashes_of fresh) (position (ids_of first_eight fresh) id) 0) h ≡ d
       → active && not (holds I id) ≡ e
-      → judged a b c d e ≡ item_in (hashes_of table) (hashes_of known) (hashes_of fresh) I active (joined 8 (part at 64 s))
+      → judged a b c d e ≡ item_in (hashes_of table) (hashes_of known) (hashes_of fresh) I active h
   unfolding item_in ids_of
   item_judged ea eb ec ed ee =
       rw (← ea, ← eb, ← ec, ← ed, ← ee)
       (ap₂ (λ (x q : ℕ).
-      judged (ltb q 8192) (eqb (hash_at_place (hashes_of table) (hashes_of known) q) (joined 8 (part at 64 s)))
-      (holds (map first_eight (hashes_of fresh)) x) (eqb (get_or (hashes_of fresh) (position (map first_eight (hashes_of fresh)) x) 0) (joined 8 (part at 64 s)))
+      judged (ltb q 8192) (eqb (hash_at_place (hashes_of table) (hashes_of known) q) h)
+      (holds (map first_eight (hashes_of fresh)) x) (eqb (get_or (hashes_of fresh) (position (map first_eight (hashes_of fresh)) x) 0) h)
       (active && not (holds I x)))
-      (read ∙ sym (first_eight_part at s room)) (place_here table known at s room read is))
+      read (place_here table known h read is))
 
--- a search that found
-module _ (t : List ℕ) (x : ℕ) {q : ℕ} (is : q ≡ position (ids_of first_eight t) x) (there : holds (ids_of first_eight t) x ≡ true) where
-  pub found_inside : q < length t / 64
-  found_inside = omega (arith, is, holds-within (ids_of first_eight t) x there, ids-length first_eight t)
-
-  pub found-hash : joined 8 (part (64 * q) 64 t) ≡ get_or (hashes_of t) (position (ids_of first_eight t) x) 0
-  found-hash = sym (hash_at_lem t q found_inside) ∙ ap (λ (k : ℕ). get_or (hashes_of t) k 0) is
+-- the hash that a search found
+pub found-hash : (t : List ℕ) (x : ℕ) {i : ℕ} → (i ≡ position (ids_of first_eight t) x) × (holds (ids_of first_eight t) x ≡ true)
+    → joined 8 (part (64 * i) 64 t) ≡ get_or (hashes_of t) (position (ids_of first_eight t) x) 0
+found-hash t x {i} f = sym (hash_at_lem t i (index-within t x f)) ∙ ap (λ (k : ℕ). get_or (hashes_of t) k 0) f.0
 
 -- ---- the new ones so far, in their order and ascending
 
@@ -176,18 +173,18 @@ module _ (t K I : List ℕ) (active : Bool) (h : ℕ) (F : List ℕ) where
 
 -- ---- an OFFER
 
-pub record Offering (table known I : List ℕ) (active : Bool) (hs fresh₀ hashes₀ fresh hashes : List ℕ) (m i : ℕ) : Type 0 where
+pub record Offering (table known I : List ℕ) (active : Bool) (hs fresh₀ hashes₀ fresh hashes : List ℕ) (m : ℕ) (left : List ℕ) : Type 0 where
   pub gathered : List ℕ
   pub sorted : List ℕ
   pub among : Among gathered sorted
-  pub going : Going is_good (new_one first_eight (hashes_of table) (hashes_of known) I active) hs (news_of true []) i (news_of true gathered)
+  pub going : Going is_good (new_one first_eight (hashes_of table) (hashes_of known) I active) hs (news_of true []) left (news_of true gathered)
   pub gathering : Gathering gathered hashes₀ hashes m
   pub count : m ≡ length sorted
-  pub few : m ≤ i
+  pub few : m + length left ≤ length hs
   pub same : length fresh ≡ length fresh₀
   pub bytes : fresh ≡ over 0 (packed 512 sorted) fresh₀
 
-pub offering_start : (table known I : List ℕ) (active : Bool) (hs fresh hashes : List ℕ) → Offering table known I active hs fresh hashes fresh hashes 0 0
+pub offering_start : (table known I : List ℕ) (active : Bool) (hs fresh hashes : List ℕ) → Offering table known I active hs fresh hashes fresh hashes 0 hs
 offering_start table known I active hs fresh hashes = record {
   gathered = [];
   sorted = [];
@@ -200,68 +197,63 @@ offering_start table known I active hs fresh hashes = record {
   bytes = (gathering-start fresh).bytes;
 }
 
-module _ {table known I : List ℕ} {active : Bool} {hs fresh₀ hashes₀ fresh hashes : List ℕ} {m i : ℕ}
-    (s : Offering table known I active hs fresh₀ hashes₀ fresh hashes m i) where
-  pub offering_end : length hs ≤ i → Offered (new_all first_eight (hashes_of table) (hashes_of known) I active hs) true m hashes hashes₀ × (m ≤ length hs)
-  offering_end h =
-      let all = going_end s.going h in (
-        record {
-          fine_is = ap (λ (w : News). w.fine) all;
-          count_is = λ e. s.gathering.count ∙ ap (λ (w : News). length w.hashes) all;
-          bytes_are = λ e. s.gathering.bytes ∙ ap (λ (w : News). over 0 (packed 512 w.hashes) hashes₀) all;
-        },
-        omega (arith, s.few, s.going.within),
-      )
+module _ {table known I : List ℕ} {active : Bool} {hs fresh₀ hashes₀ fresh hashes : List ℕ} {m : ℕ} {left : List ℕ}
+    (s : Offering table known I active hs fresh₀ hashes₀ fresh hashes m left) where
+  pub offering_end : left ≡ [] → Offered (new_all first_eight (hashes_of table) (hashes_of known) I active hs) (Some m) hashes hashes₀
+  offering_end none =
+      let all = going_end s.going none in
+      record {
+        good = sym (ap (λ (w : News). w.fine) all);
+        count = s.gathering.count ∙ ap (λ (w : News). length w.hashes) all;
+        bytes-are = s.gathering.bytes ∙ ap (λ (w : News). over 0 (packed 512 w.hashes) hashes₀) all;
+      }
 
-  module _ {h : ℕ} {r : Item} (l : i < length hs) (item : h ≡ get_or hs i 0) (many : length hs ≤ 1023) (room : 65472 ≤ length fresh₀)
+  module _ {h : ℕ} {rest : List ℕ} {r : Item} (item : left ≡ h ∷ rest) (many : length hs ≤ 1023) (room : 65472 ≤ length fresh₀)
       (judge : r ≡ item_in (hashes_of table) (hashes_of known) (hashes_of (take (64 * m) fresh)) I active h) where
+    one_more : m + 1 + length rest ≤ length hs
+    one_more = omega (arith, s.few, ap length item)
+
     judged-sorted : r ≡ item_in (hashes_of table) (hashes_of known) s.sorted I active h
     judged-sorted =
         judge
         ∙ ap (λ (F : List ℕ). item_in (hashes_of table) (hashes_of known) F I active h)
         (ap₂ (λ (k : ℕ) (q : List ℕ). hashes_of (take (64 * k) q)) s.count s.bytes
-        ∙ hashes-written s.sorted fresh₀ s.among.fresh.known (omega (arith, s.count, s.few)))
+        ∙ hashes-written s.sorted fresh₀ s.among.fresh.known (omega (arith, s.count, one_more)))
 
     acted_by : {q : Item} → r ≡ q → acts q h s.gathered ≡ new_one first_eight (hashes_of table) (hashes_of known) I active h (news_of true s.gathered)
     acted_by e =
         ap (λ (q : Item). acts q h s.gathered) (sym e ∙ judged-sorted)
         ∙ acted (hashes_of table) (hashes_of known) I active h s.sorted s.gathered s.among
 
-    pub offering_known : {fresh' hashes' : List ℕ} {m' : ℕ} → r ≡ Known → fresh' ≡ fresh → hashes' ≡ hashes → m' ≡ m
-        → Offering table known I active hs fresh₀ hashes₀ fresh' hashes' m' (i + 1)
-    offering_known e a b c =
-        rw (a, b, c) record {
-          gathered = s.gathered;
-          sorted = s.sorted;
-          among = s.among;
-          going = going_next s.going l item (acted_by e) refl;
-          gathering = s.gathering;
-          count = s.count;
-          few = omega (arith, s.few);
-          same = s.same;
-          bytes = s.bytes;
-        }
-
-    pub offering_bad : r ≡ Bad → Offered (new_all first_eight (hashes_of table) (hashes_of known) I active hs) false 0 hashes hashes₀
-    offering_bad e = record {
-      fine_is = ap (λ (w : News). w.fine) (going-stops s.going l item (acted_by e) refl);
-      count_is = λ t. absurd (false≢true t);
-      bytes_are = λ t. absurd (false≢true t);
+    pub offering_known : r ≡ Known → Offering table known I active hs fresh₀ hashes₀ fresh hashes m rest
+    offering_known e = record {
+      gathered = s.gathered;
+      sorted = s.sorted;
+      among = s.among;
+      going = going_next s.going item (acted_by e) refl;
+      gathering = s.gathering;
+      count = s.count;
+      few = omega (arith, one_more);
+      same = s.same;
+      bytes = s.bytes;
     }
 
+    pub offering_bad : r ≡ Bad → (new_all first_eight (hashes_of table) (hashes_of known) I active hs).fine ≡ false
+    offering_bad e = sym (ap (λ (w : News). w.fine) (going-stops s.going item (acted_by e) refl))
+
     -- its bytes bs were put in at place p
-    pub offering_new : {p m' : ℕ} {bs fresh' hashes' : List ℕ} → r ≡ New → 65472 ≤ length hashes₀ → h < 2 ^ 512 → groups 8 64 h ≡ bs
+    pub offering_new : {p : ℕ} {bs fresh' hashes' : List ℕ} → r ≡ New → 65472 ≤ length hashes₀ → h < 2 ^ 512 → groups 8 64 h ≡ bs
         → p ≡ position (ids_of first_eight (take (64 * m) fresh)) (first_eight h) → fresh' ≡ hash_into m p bs fresh → length fresh' ≡ length fresh
-        → hashes' ≡ over (64 * m) bs hashes → m' ≡ m + 1 → Offering table known I active hs fresh₀ hashes₀ fresh' hashes' m' (i + 1)
-    offering_new {p = p} {fresh' = fresh'} e room-h short bytes is put kept copied c =
-        rw c record {
+        → hashes' ≡ over (64 * m) bs hashes → Offering table known I active hs fresh₀ hashes₀ fresh' hashes' (m + 1) rest
+    offering_new {p = p} {fresh' = fresh'} e room-h short bytes is put kept copied =
+        record {
           gathered = s.gathered ++ h ∷ [];
           sorted = insert h s.sorted;
           among = among_next s.among h short apart space;
-          going = going_next s.going l item (acted_by e) refl;
-          gathering = gathering-next h s.gathering (omega (arith, s.few)) (copied ∙ ap (λ (b : List ℕ). over (64 * m) b hashes) (sym bytes));
+          going = going_next s.going item (acted_by e) refl;
+          gathering = gathering-next h s.gathering (omega (arith, one_more)) (copied ∙ ap (λ (b : List ℕ). over (64 * m) b hashes) (sym bytes));
           count = omega (arith, s.count, insert-length h s.sorted (fresh-first fits));
-          few = omega (arith, s.few);
+          few = one_more;
           same = kept ∙ s.same;
           bytes = into;
         }
@@ -270,13 +262,13 @@ module _ {table known I : List ℕ} {active : Bool} {hs fresh₀ hashes₀ fresh
         apart = new_apart (hashes_of table) (hashes_of known) I active h s.sorted (sym judged-sorted ∙ e)
 
         space : length s.sorted < 4096
-        space = omega (arith, s.count, s.few)
+        space = omega (arith, s.count, one_more)
 
         fits : Fresh (h ∷ []) s.sorted
         fits = new-among s.among h short apart space
 
         wide : 64 * length s.sorted + 64 ≤ length fresh₀
-        wide = omega (arith, s.count, s.few)
+        wide = omega (arith, s.count, one_more)
 
         place : p ≡ position (map first_eight s.sorted) (first_eight h)
         place =

@@ -16,6 +16,7 @@ use Rattle.ledger.specs.Grid.{ACTIVE}
 use Rattle.ledger.proofs.BelowLaws.{Fit, hashes-written}
 use Rattle.session.specs.Moves.{News, new_all, extra, Stored, stored, store_all}
 use Rattle.session.specs.Ready.{Offered}
+use Rattle.std.specs.Prelude.{Some}
 use Rattle.form.specs.Answers.{aborted, changed}
 use Rattle.session.specs.Turns.{OfferTurn, offer_turn', offer_turn}
 use Rattle.ledger.proofs.RoomLaws.{demands-room}
@@ -27,25 +28,25 @@ abbrev news : List ℕ → List ℕ → List ℕ → Bool → List ℕ → News
 news table known I active hs = new_all first_eight (hashes_of table) (hashes_of known) I active hs
 
 -- what it leaves in the room for hashes
-pub record Found (table known I : List ℕ) (active : Bool) (hs : List ℕ) (fine : Bool) (count : ℕ) (bytes : List ℕ) : Type 0 where
-  pub judged : (news table known I active hs).fine ≡ fine
-  pub many : fine ≡ true → count ≡ length (news table known I active hs).hashes
-  pub hashes : fine ≡ true → hashes_of (take (64 * count) bytes) ≡ (news table known I active hs).hashes
-  pub room : fine ≡ true → length (layouts (demands_of (hashes_of (take (64 * count) bytes)))) ≤ 65476
+pub record Found (table known I : List ℕ) (active : Bool) (hs : List ℕ) (count : ℕ) (bytes : List ℕ) : Type 0 where
+  pub judged : (news table known I active hs).fine ≡ true
+  pub many : count ≡ length (news table known I active hs).hashes
+  pub hashes : hashes_of (take (64 * count) bytes) ≡ (news table known I active hs).hashes
+  pub room : length (layouts (demands_of (hashes_of (take (64 * count) bytes)))) ≤ 65476
 
-pub found : (table known I : List ℕ) (active : Bool) (hs : List ℕ) {bytes₀ bytes : List ℕ} {fine : Bool} {count : ℕ} → Fit 512 hs → length bytes₀ ≡ 65472 → count ≤ 1023
-    → Offered (news table known I active hs) fine count bytes bytes₀ → Found table known I active hs fine count bytes
-found table known I active hs {bytes₀} {bytes} {fine} {count} short large few walked = record {
-  judged = sym walked.fine_is;
-  many = walked.count_is;
+pub found : (table known I : List ℕ) (active : Bool) (hs : List ℕ) {bytes₀ bytes : List ℕ} {count : ℕ} → Fit 512 hs → length bytes₀ ≡ 65472 → count ≤ 1023
+    → Offered (news table known I active hs) (Some count) bytes bytes₀ → Found table known I active hs count bytes
+found table known I active hs {bytes₀} {bytes} {count} short large few walked = record {
+  judged = walked.good;
+  many = walked.count;
   hashes = gathered;
-  room = λ e. rw (gathered e) (demands-room (news table known I active hs).hashes (omega (arith, walked.count_is e)));
+  room = rw gathered (demands-room (news table known I active hs).hashes (omega (arith, walked.count)));
 }
   where
-    gathered : fine ≡ true → hashes_of (take (64 * count) bytes) ≡ (news table known I active hs).hashes
-    gathered e =
-        ap₂ (λ (n : ℕ) (l : List ℕ). hashes_of (take (64 * n) l)) (walked.count_is e) (walked.bytes_are e)
-        ∙ hashes-written (news table known I active hs).hashes bytes₀ (new-short (hashes_of table) (hashes_of known) I active hs short) (omega (arith, walked.count_is e))
+    gathered : hashes_of (take (64 * count) bytes) ≡ (news table known I active hs).hashes
+    gathered =
+        ap₂ (λ (n : ℕ) (l : List ℕ). hashes_of (take (64 * n) l)) walked.count walked.bytes-are
+        ∙ hashes-written (news table known I active hs).hashes bytes₀ (new-short (hashes_of table) (hashes_of known) I active hs short) (omega (arith, walked.count))
 
 -- ---- the ways through
 
@@ -75,28 +76,28 @@ module _ (N : Numbers) (table known I hs : List ℕ) (concerned : ℕ) (R M out 
   aborting : {r : Answer} {n : ℕ} → r ≡ aborted n N → offer_turn' r (stored R M) out ≡ aborts n
   aborting is = ap (λ (r : Answer). offer_turn' r (stored R M) out) is
 
-  module _ {fine : Bool} {count : ℕ} {bytes : List ℕ} (went : Found table known I (eqb N.state ACTIVE) hs fine count bytes) where
-    pub offer_bad : {r : Answer} → fine ≡ false → r ≡ aborted 7 N → offer_turn' r (stored R M) out ≡ turn
-    offer_bad e is = aborting is ∙ decided (went.judged ∙ e) refl
+  pub offer_bad : {r : Answer} → here.fine ≡ false → r ≡ aborted 7 N → offer_turn' r (stored R M) out ≡ turn
+  offer_bad e is = aborting is ∙ decided e refl
 
-    module _ (e : fine ≡ true) {more : ℕ} (counted : more ≡ extra first_eight I (hashes_of (take (64 * count) bytes))) where
+  module _ {count : ℕ} {bytes : List ℕ} (went : Found table known I (eqb N.state ACTIVE) hs count bytes) where
+    module _ {more : ℕ} (counted : more ≡ extra first_eight I (hashes_of (take (64 * count) bytes))) where
       too_many_lem : {b : Bool} → ltb 4096 (concerned + more) || ltb 4096 (N.demanded + count) ≡ b
           → ltb 4096 (concerned + extra first_eight I here.hashes) || ltb 4096 (N.demanded + length here.hashes) ≡ b
       too_many_lem f =
-          ap₂ (λ (x y : ℕ). ltb 4096 (concerned + x) || ltb 4096 (N.demanded + y)) (sym (counted ∙ ap (extra first_eight I) (went.hashes e))) (sym (went.many e)) ∙ f
+          ap₂ (λ (x y : ℕ). ltb 4096 (concerned + x) || ltb 4096 (N.demanded + y)) (sym (counted ∙ ap (extra first_eight I) went.hashes)) (sym went.many) ∙ f
 
       pub offer-over : {r : Answer} → ltb 4096 (concerned + more) || ltb 4096 (N.demanded + count) ≡ true → r ≡ aborted 10 N → offer_turn' r (stored R M) out ≡ turn
-      offer-over f is = aborting is ∙ decided (went.judged ∙ e) (too_many_lem f)
+      offer-over f is = aborting is ∙ decided went.judged (too_many_lem f)
 
       pub offer-taken : {r : Answer} {sent : ℕ} {s : Stored} {out' : List ℕ} → ltb 4096 (concerned + more) || ltb 4096 (N.demanded + count) ≡ false
           → r ≡ answer count sent → s ≡ store_all N.demanded (hashes_of (take (64 * count) bytes)) (stored R M)
           → (sent ≡ 0 + length (layouts (demands_of (hashes_of (take (64 * count) bytes))))) × (out' ≡ over 0 (layouts (demands_of (hashes_of (take (64 * count) bytes)))) out)
           → offer_turn' r s out' ≡ turn
       offer-taken {r} {sent} {s} {out'} f is kept (long, wrote) =
-          (λ i. offer_turn' ((is ∙ ap₂ answer (went.many e) size) i) (records i) (written i)) ∙ decided (went.judged ∙ e) (too_many_lem f)
+          (λ i. offer_turn' ((is ∙ ap₂ answer went.many size) i) (records i) (written i)) ∙ decided went.judged (too_many_lem f)
         where
           said : hashes_of (take (64 * count) bytes) ≡ here.hashes
-          said = went.hashes e
+          said = went.hashes
 
           size : sent ≡ length (layouts (demands_of here.hashes))
           size = long ∙ zero-add (length (layouts (demands_of (hashes_of (take (64 * count) bytes))))) ∙ ap (λ (l : List ℕ). length (layouts (demands_of l))) said

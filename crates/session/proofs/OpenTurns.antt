@@ -7,7 +7,7 @@ use native.Mathlib.Omega.{arith}
 use borrow.Author.Tests.{ltb-true, ltb-false, eq-eqb, ne_eqb}
 use lib.Bits.{bit_xor, xor_zero_r}
 use lib.Dec.{eqb, ltb}
-use lib.ListN.{length, take, get_or, length-append, length-map, length-take, get_or-eq_default}
+use lib.ListN.{length, take, get_or, length-append, length-map, get_or-eq_default}
 use lib.Pow.{pow_pos}
 use Rattle.bucket.specs.Crc.{tabulated}
 use Rattle.bucket.specs.Digits.{joined, packed}
@@ -55,18 +55,12 @@ listed-room salt ids hs h k =
       offers-room hs k,
     )
 
--- ours and theirs are parts of lists
-part-few : (n : ℕ) (l : List ℕ) → n ≤ 4096 → length (take n l) ≤ 4096
-part-few n l h = omega (arith, h, length-take n l)
+pub offered-few : (table ours : List ℕ) → length ours ≤ 4096 → length (hashes_at (hashes_of table) (ids_of first_eight table) ours) ≤ 4096
+offered-few table ours h = rw (length-map ours (λ x. get_or (hashes_of table) (position (ids_of first_eight table) x) 0)) h
 
-pub offered-few : (table ours : List ℕ) (a : ℕ) → a ≤ 4096 → length (hashes_at (hashes_of table) (ids_of first_eight table) (take a ours)) ≤ 4096
-offered-few table ours a h =
-    rw (length-map (take a ours) (λ x. get_or (hashes_of table) (position (ids_of first_eight table) x) 0)) (part-few a ours h)
-
-pub told-room : (salt : ℕ) (table ours theirs : List ℕ) (a b : ℕ) → a ≤ 4096 → b ≤ 4096
-    → length (layouts (inquiries_of salt (take b theirs) ++ offers_of (hashes_at (hashes_of table) (ids_of first_eight table) (take a ours)))) ≤ 294940
-told-room salt table ours theirs a b h k =
-    listed-room salt (take b theirs) (hashes_at (hashes_of table) (ids_of first_eight table) (take a ours)) (part-few b theirs k) (offered-few table ours a h)
+pub told-room : (salt : ℕ) (table ours theirs : List ℕ) → length ours ≤ 4096 → length theirs ≤ 4096
+    → length (layouts (inquiries_of salt theirs ++ offers_of (hashes_at (hashes_of table) (ids_of first_eight table) ours))) ≤ 294940
+told-room salt table ours theirs h k = listed-room salt theirs (hashes_at (hashes_of table) (ids_of first_eight table) ours) k (offered-few table ours h)
 
 -- ---- the hashes that are offered
 
@@ -83,14 +77,14 @@ hashes-at-short t ts short (x ∷ xs) h e =
     elem_cases (λ (v : ℕ). v < 2 ^ 512) h (get_or t (position ts x) 0) (hashes_at t ts xs) e (at-short t short (position ts x)) (hashes-at-short t ts short xs h)
 
 -- gathered in bytes, they are read again
-pub gathered-back : (table ours : List ℕ) (a : ℕ) (bytes₀ : List ℕ) {bytes : List ℕ} → a ≡ length ours → 64 * a ≤ length bytes₀
+pub gathered-back : (table ours bytes₀ : List ℕ) {bytes : List ℕ} → 64 * length ours ≤ length bytes₀
     → bytes ≡ over 0 (packed 512 (hashes_at (hashes_of table) (ids_of first_eight table) ours)) bytes₀
-    → hashes_of (take (64 * a) bytes) ≡ hashes_at (hashes_of table) (ids_of first_eight table) ours
-gathered-back table ours a bytes₀ e room f =
+    → hashes_of (take (64 * length ours) bytes) ≡ hashes_at (hashes_of table) (ids_of first_eight table) ours
+gathered-back table ours bytes₀ room f =
     let hs = hashes_at (hashes_of table) (ids_of first_eight table) ours in
     let count : length hs ≡ length ours = length-map ours (λ x. get_or (hashes_of table) (position (ids_of first_eight table) x) 0) in
-    ap₂ (λ (n : ℕ) (l : List ℕ). hashes_of (take (64 * n) l)) (e ∙ sym count) f
-    ∙ hashes-written hs bytes₀ (hashes-at-short (hashes_of table) (ids_of first_eight table) (hashes-fit table) ours) (omega (arith, count, e, room))
+    ap₂ (λ (n : ℕ) (l : List ℕ). hashes_of (take (64 * n) l)) (sym count) f
+    ∙ hashes-written hs bytes₀ (hashes-at-short (hashes_of table) (ids_of first_eight table) (hashes-fit table) ours) (omega (arith, count, room))
 
 -- ---- the checksum of the table alone
 

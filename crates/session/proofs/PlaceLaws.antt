@@ -2,15 +2,16 @@
 use mathlib.Core.Path.{◌≡◌, refl, sym, ap, ap₂, ◌∙◌}
 use mathlib.Core.Bool.{Bool, true, false, not, ◌&&◌, ◌||◌, cond, and-eq-true_iff, true≢false}
 use mathlib.Core.List.{List, [], ◌∷◌, ◌++◌, map}
-use Prim.Native.Nat.{ℕ, ◌+◌, ◌-◌, ◌*◌, ◌≤◌, ◌<◌}
+use Prim.Native.Nat.{ℕ, ◌+◌, ◌-◌, ◌*◌, ◌/◌, ◌^◌, ◌≤◌, ◌<◌}
 use native.Mathlib.Omega.{arith}
 use lib.Dec.{eqb, ltb, leb}
 use lib.ListN.{length, get_or}
-use lib.Seq.{get_or-take, get_or-drop}
-use borrow.Author.Tests.{lt-ltb, le-ltb, ltb-true, ltb-false, le-leb, lt-leb, leb-true, leb-false, eq-eqb, ne_eqb}
+use lib.Seq.{take_all}
+use borrow.Author.Tests.{eqb-true, lt-ltb, le-ltb, ltb-true, ltb-false, le-leb, lt-leb, leb-true, leb-false, eq-eqb, ne_eqb}
 use Rattle.bucket.specs.Digits.{joined, groups, Below}
 use Rattle.bucket.specs.Lists.{part}
-use Rattle.bucket.proofs.DigitLaws.{groups-joined}
+use Rattle.bucket.proofs.DigitLaws.{groups-below, groups-joined, joined-groups, groups-length}
+use Rattle.message.proofs.RoundLaws.{hashes-below}
 use Rattle.bucket.proofs.OverLaws.{part_length, part_suc}
 use Rattle.bucket.proofs.TestLaws.{and_fails, and_holds, cond-kept, cond-made}
 use Rattle.filter.specs.Table.{hashes_of, first_eight, ids_of, is_table, position, holds}
@@ -20,6 +21,11 @@ use Rattle.message.proofs.WholeLaws.{part-below}
 use Rattle.ledger.specs.Memory.{is_met}
 use Rattle.session.specs.Moves.{place_of, is_held_at, hash_at_place, place_of_hash, is_unmet_at, unmet_at}
 use Rattle.session.specs.Ready.{Placed}
+use Rattle.filter.proofs.OrderLaws.{same_test}
+use Rattle.std.specs.Bool.{Decides}
+use Rattle.std.specs.Cmp.Lexicographic.{pointwise}
+use Rattle.std.proofs.lemmas.Slice.Eq.{bytes_eq-Decides}
+use native.Mathlib.Nat.{mod-eq_of_lt}
 
 -- ---- a search for an ID
 
@@ -76,6 +82,10 @@ module _ (table known : List ℕ) (p : ℕ) where
   pub second_placed : 4096 ≤ p → Placed table known p → 64 * (p - 4096) + 64 ≤ length known
   second_placed h w = rw (le-ltb p 4096 h) at w
 
+-- a search that found ends inside
+pub index-within : (t : List ℕ) (x : ℕ) {i : ℕ} → (i ≡ position (ids_of first_eight t) x) × (holds (ids_of first_eight t) x ≡ true) → i < length t / 64
+index-within t x f = omega (arith, f.0, holds-within (ids_of first_eight t) x f.1, ids-length first_eight t)
+
 -- a place found is a place of the table or of the demanded
 module _ (table known : List ℕ) (x : ℕ) (few-t : length table ≤ 262144) (few-k : length known ≤ 262144) where
   pub place-placed : {p : ℕ} → p ≡ place_of (ids_of first_eight table) (ids_of first_eight known) x → p < 8192 → Placed table known p
@@ -125,32 +135,23 @@ module _ (M : List ℕ) (p : ℕ) where
 -- ---- a demand that is unmet
 
 module _ (M : List ℕ) (p : ℕ) where
-  pub unmet-inside : ltb p 4096 || leb 8192 p ≡ false → (4096 ≤ p) × (p < 8192)
-  unmet-inside e = go (ltb p 4096) refl
-    where
-      go : (b : Bool) → ltb p 4096 ≡ b → (4096 ≤ p) × (p < 8192)
-      go true l = absurd (true≢false (sym (ap (λ (b : Bool). b || leb 8192 p) l) ∙ e))
-      go false l = (ltb-false p 4096 l, leb-false 8192 p (sym (ap (λ (b : Bool). b || leb 8192 p) l) ∙ e))
-
-  pub unmet_outside : ltb p 4096 || leb 8192 p ≡ true → 8192 ≡ unmet_at M p
+  -- of no place, of one of the table, of one that is met
+  pub unmet_outside : p < 4096 → unmet_at M p ≡ 8192
   unfolding unmet_at
-  unmet_outside e = cond-kept p 8192 (go (ltb p 4096) refl)
-    where
-      go : (b : Bool) → ltb p 4096 ≡ b → is_unmet_at M p ≡ false
-      go true l = ap (λ (b : Bool). b && (ltb p 8192 && not (is_met (get_or M p 0)))) (lt-leb 4096 p (ltb-true p 4096 l))
-      go false l =
-          let far = leb-true 8192 p (sym (ap (λ (b : Bool). b || leb 8192 p) l) ∙ e) in
-          and_fails (leb 4096 p) (ap (λ (b : Bool). b && not (is_met (get_or M p 0))) (le-ltb p 8192 far))
+  unmet_outside l = sym (cond-kept p 8192 (ap (λ (b : Bool). b && (ltb p 8192 && not (is_met (get_or M p 0)))) (lt-leb 4096 p l)))
 
-  pub unmet-met : is_met (get_or M p 0) ≡ true → 8192 ≡ unmet_at M p
+  pub unmet_nowhere : p ≡ 8192 → unmet_at M p ≡ 8192
   unfolding unmet_at
-  unmet-met e = cond-kept p 8192 (and_fails (leb 4096 p) (and_fails (ltb p 8192) (ap not e)))
+  unmet_nowhere e =
+      sym (cond-kept p 8192 (and_fails (leb 4096 p) (ap (λ (b : Bool). b && not (is_met (get_or M p 0))) (le-ltb p 8192 (omega arith)))))
 
-  pub unmet-there : ltb p 4096 || leb 8192 p ≡ false → is_met (get_or M p 0) ≡ false → p ≡ unmet_at M p
+  pub unmet-met : is_met (get_or M p 0) ≡ true → unmet_at M p ≡ 8192
   unfolding unmet_at
-  unmet-there e f =
-      let (low, high) = unmet-inside e in
-      cond-made p 8192 (and_holds (le-leb 4096 p low) (and_holds (lt-ltb p 8192 high) (ap not f)))
+  unmet-met e = sym (cond-kept p 8192 (and_fails (leb 4096 p) (and_fails (ltb p 8192) (ap not e))))
+
+  pub unmet-there : 4096 ≤ p → p < 8192 → is_met (get_or M p 0) ≡ false → p ≡ unmet_at M p
+  unfolding unmet_at
+  unmet-there low high f = cond-made p 8192 (and_holds (le-leb 4096 p low) (and_holds (lt-ltb p 8192 high) (ap not f)))
 
   -- what the answer tells
   pub unmet-found : {q : ℕ} → q ≡ unmet_at M p → q < 8192 → (is_unmet_at M p ≡ true) × (q ≡ p)
@@ -173,30 +174,26 @@ module _ (M : List ℕ) (p : ℕ) where
 
 -- ---- 64 bytes
 
+-- the ID of a hash
+pub id_of_hash : (h : List ℕ) {x : ℕ} → length h ≡ 64 → x ≡ joined 8 (part 0 8 h) → x ≡ first_eight (joined 8 h)
+id_of_hash h size e = e ∙ sym (first_eight_part 0 h (omega arith)) ∙ ap (λ (l : List ℕ). first_eight (joined 8 l)) (take_all 64 h (omega arith))
+
 pub bytes_back : (at : ℕ) (l : List ℕ) → at + 64 ≤ length l → Below 8 l → groups 8 64 (joined 8 (part at 64 l)) ≡ part at 64 l
 bytes_back at l room below =
     ap (λ (n : ℕ). groups 8 n (joined 8 (part at 64 l))) (sym (part_length at l 64 room)) ∙ groups-joined 8 (part at 64 l) (part-below at 64 l below)
 
 -- bytes are the same where the numbers in them are
-module _ (a : List ℕ) (i : ℕ) (b : List ℕ) (j : ℕ) (room-a : i + 64 ≤ length a) (room-b : j + 64 ≤ length b) where
-  pub bytes_same : Below 8 a → Below 8 b → joined 8 (part i 64 a) ≡ joined 8 (part j 64 b) → part i 64 a ≡ part j 64 b
-  bytes_same la lb e = sym (bytes_back i a room-a la) ∙ ap (groups 8 64) e ∙ bytes_back j b room-b lb
+pub same_bytes : (a b : List ℕ) → length a ≡ 64 → length b ≡ 64 → Below 8 a → Below 8 b → pointwise eqb a b ≡ eqb (joined 8 a) (joined 8 b)
+same_bytes a b size-a size-b below-a below-b =
+    same_test (pointwise eqb a b) (eqb (joined 8 a) (joined 8 b))
+    (λ e. eq-eqb (joined 8 a) (joined 8 b) (ap (joined 8) (decides.0 e)))
+    (λ e. decides.1 (sym (back a size-a below-a) ∙ ap (groups 8 64) (eqb-true (joined 8 a) (joined 8 b) e) ∙ back b size-b below-b))
+  where
+    back : (l : List ℕ) → length l ≡ 64 → Below 8 l → groups 8 64 (joined 8 l) ≡ l
+    back l size below = ap (λ (n : ℕ). groups 8 n (joined 8 l)) (sym size) ∙ groups-joined 8 l below
 
-  pub same-all : part i 64 a ≡ part j 64 b → true ≡ eqb (joined 8 (part i 64 a)) (joined 8 (part j 64 b))
-  same-all e = sym (eq-eqb (joined 8 (part i 64 a)) (joined 8 (part j 64 b)) (ap (joined 8) e))
-
-  module _ (k : ℕ) (h : k < 64) where
-    pub same_next : part i k a ≡ part j k b → get_or a (i + k) 0 ≡ get_or b (j + k) 0 → part i (k + 1) a ≡ part j (k + 1) b
-    same_next e q =
-        part_suc i a k 0 (omega arith) ∙ ap₂ (λ (l : List ℕ) (x : ℕ). l ++ x ∷ []) e q ∙ sym (part_suc j b k 0 (omega arith))
-
-    pub same_ends : Below 8 a → Below 8 b → (get_or a (i + k) 0 ≡ get_or b (j + k) 0 → ⊥) → false ≡ eqb (joined 8 (part i 64 a)) (joined 8 (part j 64 b))
-    same_ends la lb ne =
-        sym (ne_eqb (joined 8 (part i 64 a)) (joined 8 (part j 64 b))
-        (λ e. ne (sym (at_part i a) ∙ ap (λ (l : List ℕ). get_or l k 0) (bytes_same la lb e) ∙ at_part j b)))
-      where
-        at_part : (at : ℕ) (l : List ℕ) → get_or (part at 64 l) k 0 ≡ get_or l (at + k) 0
-        at_part at l = rw (get_or-take, get_or-drop)
+    decides : Decides (pointwise eqb a b) (a ≡ b)
+    decides = bytes_eq-Decides a b
 
 -- ---- the hash at a place
 
@@ -221,28 +218,50 @@ module _ (table known : List ℕ) (p : ℕ) (w : Placed table known p) where
   bytes_second h below =
       sym (ap (groups 8 64) (hash_second h) ∙ bytes_back (64 * (p - 4096)) known (second_placed table known p h w) below)
 
--- ---- the place of a hash, which stands in 64 bytes
+-- it has 64 bytes, and whether they are those of another
+module _ (table known : List ℕ) (p : ℕ) where
+  pub place-short : hash_at_place (hashes_of table) (hashes_of known) p < 2 ^ 512
+  unfolding hash_at_place
+  place-short = go (ltb p 4096)
+    where
+      go : (b : Bool) → cond b (get_or (hashes_of table) p 0) (get_or (hashes_of known) (p - 4096) 0) < 2 ^ 512
+      go true = hashes-below table p
+      go false = hashes-below known (p - 4096)
 
-module _ (table known : List ℕ) (at : ℕ) (s : List ℕ) (room : at + 64 ≤ length s) {id p : ℕ} (read : id ≡ joined 8 (part at 8 s))
+  module _ {bs : List ℕ} (there : bs ≡ groups 8 64 (hash_at_place (hashes_of table) (hashes_of known) p)) where
+    pub place-size : length bs ≡ 64
+    place-size = ap length there ∙ groups-length 8 64 (hash_at_place (hashes_of table) (hashes_of known) p)
+
+    pub place-same : (h : List ℕ) → length h ≡ 64 → Below 8 h → pointwise eqb bs h ≡ eqb (hash_at_place (hashes_of table) (hashes_of known) p) (joined 8 h)
+    place-same h size below =
+        same_bytes bs h place-size size (rw there (groups-below 8 64 x)) below
+        ∙ ap (λ (n : ℕ). eqb n (joined 8 h)) (ap (joined 8) there ∙ joined-groups 8 64 x ∙ mod-eq_of_lt place-short)
+      where
+        x : ℕ
+        x = hash_at_place (hashes_of table) (hashes_of known) p
+
+-- ---- the place of a hash
+
+module _ (table known : List ℕ) (h : ℕ) {id p : ℕ} (read : id ≡ first_eight h)
     (is : p ≡ place_of (ids_of first_eight table) (ids_of first_eight known) id) where
-  pub place_here : p ≡ place_of (map first_eight (hashes_of table)) (map first_eight (hashes_of known)) (first_eight (joined 8 (part at 64 s)))
+  pub place_here : p ≡ place_of (map first_eight (hashes_of table)) (map first_eight (hashes_of known)) (first_eight h)
   unfolding ids_of
-  place_here = is ∙ ap (place_of (ids_of first_eight table) (ids_of first_eight known)) (read ∙ sym (first_eight_part at s room))
+  place_here = is ∙ ap (place_of (ids_of first_eight table) (ids_of first_eight known)) read
 
-  by_tests : (t u : Bool) → ltb p 8192 ≡ t → eqb (hash_at_place (hashes_of table) (hashes_of known) p) (joined 8 (part at 64 s)) ≡ u
-      → cond t (cond u p 8192) 8192 ≡ place_of_hash first_eight (hashes_of table) (hashes_of known) (joined 8 (part at 64 s))
+  by_tests : (t u : Bool) → ltb p 8192 ≡ t → eqb (hash_at_place (hashes_of table) (hashes_of known) p) h ≡ u
+      → cond t (cond u p 8192) 8192 ≡ place_of_hash first_eight (hashes_of table) (hashes_of known) h
   unfolding place_of_hash
   by_tests t u e f =
       ap₂ (λ (t u : Bool). cond t (cond u p 8192) 8192) (sym e) (sym f)
-      ∙ ap (λ (q : ℕ). cond (ltb q 8192) (cond (eqb (hash_at_place (hashes_of table) (hashes_of known) q) (joined 8 (part at 64 s))) q 8192) 8192) place_here
+      ∙ ap (λ (q : ℕ). cond (ltb q 8192) (cond (eqb (hash_at_place (hashes_of table) (hashes_of known) q) h) q 8192) 8192) place_here
 
-  pub hash-placed : p < 8192 → eqb (hash_at_place (hashes_of table) (hashes_of known) p) (joined 8 (part at 64 s)) ≡ true
-      → p ≡ place_of_hash first_eight (hashes_of table) (hashes_of known) (joined 8 (part at 64 s))
-  hash-placed h e = by_tests true true (lt-ltb p 8192 h) e
+  pub hash-placed : p < 8192 → eqb (hash_at_place (hashes_of table) (hashes_of known) p) h ≡ true
+      → p ≡ place_of_hash first_eight (hashes_of table) (hashes_of known) h
+  hash-placed l e = by_tests true true (lt-ltb p 8192 l) e
 
-  pub hash_other : p < 8192 → eqb (hash_at_place (hashes_of table) (hashes_of known) p) (joined 8 (part at 64 s)) ≡ false
-      → 8192 ≡ place_of_hash first_eight (hashes_of table) (hashes_of known) (joined 8 (part at 64 s))
-  hash_other h e = by_tests true false (lt-ltb p 8192 h) e
+  pub hash_other : p < 8192 → eqb (hash_at_place (hashes_of table) (hashes_of known) p) h ≡ false
+      → 8192 ≡ place_of_hash first_eight (hashes_of table) (hashes_of known) h
+  hash_other l e = by_tests true false (lt-ltb p 8192 l) e
 
-  pub hash-nowhere : 8192 ≤ p → 8192 ≡ place_of_hash first_eight (hashes_of table) (hashes_of known) (joined 8 (part at 64 s))
-  hash-nowhere h = by_tests false _ (le-ltb p 8192 h) refl
+  pub hash-nowhere : 8192 ≤ p → 8192 ≡ place_of_hash first_eight (hashes_of table) (hashes_of known) h
+  hash-nowhere l = by_tests false _ (le-ltb p 8192 l) refl

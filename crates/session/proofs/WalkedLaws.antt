@@ -11,12 +11,12 @@ use lib.ListN.{length, get_or, set, length-set, length-append}
 use Rattle.bucket.specs.Lists.{elem}
 use Rattle.bucket.proofs.ListLaws.{elem-head, elem_tail}
 use Rattle.filter.specs.Table.{first_eight, hashes_of, holds}
-use Rattle.message.proofs.RoundLaws.{hashes-below}
 use Rattle.ledger.specs.Memory.{is_asked}
 use Rattle.ledger.proofs.BelowLaws.{Fit}
 use Rattle.session.specs.Moves.{place_of, is_held_at, hash_at_place, go_all, Walk, walk, is_fine, ask_at, ask_one, ask_all, News, news_of, is_good, new_one, new_all}
 use Rattle.filter.proofs.SetLaws.{◌∈◌, not_in_nil, in_cons, append_in}
 use Rattle.session.proofs.AskLaws.{asked-few}
+use Rattle.session.proofs.PlaceLaws.{place-short}
 
 -- what each item keeps, all do
 pub go_keeps : {A : Type 0} (fine : A → Bool) (f : ℕ → A → A) (P : A → Type 0) (xs : List ℕ) → ((x : ℕ) → x ∈ xs → (w : A) → P w → P (f x w)) → (w : A) → P w
@@ -52,14 +52,6 @@ pub record Asked (n : ℕ) (w : Walk) : Type 0 where
   pub short : Fit 512 w.hashes
 
 module _ (table known : List ℕ) where
-  place_short : (p : ℕ) → hash_at_place (hashes_of table) (hashes_of known) p < 2 ^ 512
-  unfolding hash_at_place
-  place_short p = go (ltb p 4096)
-    where
-      go : (b : Bool) → cond b (get_or (hashes_of table) p 0) (get_or (hashes_of known) (p - 4096) 0) < 2 ^ 512
-      go true = hashes-below table p
-      go false = hashes-below known (p - 4096)
-
   ask_keeps : (n x : ℕ) (w : Walk) → Asked n w → Asked n (ask_one first_eight (hashes_of table) (hashes_of known) x w)
   unfolding ask_one ask_at
   ask_keeps n x w s = go (is_held_at w.marks p) (is_asked (get_or w.marks p 0) || leb 4096 (length w.hashes)) refl
@@ -79,7 +71,7 @@ module _ (table known : List ℕ) where
           record {
             same = length-set w.marks p (get_or w.marks p 0 / 4 * 4 + 3) ∙ s.same;
             few = omega (arith, length-append w.hashes (h ∷ []));
-            short = hashes-more w.hashes h s.short (place_short p);
+            short = hashes-more w.hashes h s.short (place-short table known p);
           }
 
   pub asked-all : (xs M : List ℕ) → Asked (length M) (ask_all first_eight (hashes_of table) (hashes_of known) xs M)

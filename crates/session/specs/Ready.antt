@@ -1,11 +1,10 @@
 -- What private functions may count on, as statements: cited by their contracts alone.
-use Rattle.std.specs.Prelude.{◌≡◌, Bool, true, cond, List, ℕ, ◌+◌, ◌-◌, ◌*◌, ◌≤◌, eqb, ltb, length, Some}
+use Rattle.std.specs.Prelude.{◌≡◌, Bool, true, false, cond, Option, None, Some, List, ℕ, ◌+◌, ◌-◌, ◌*◌, ◌≤◌, ◌<◌, eqb, ltb, length}
 use Rattle.std.specs.Int.Bits.{bit_xor}
 use Rattle.bucket.specs.Digits.{joined, packed, Below}
 use Rattle.bucket.specs.Lists.{over}
 use Rattle.bucket.specs.Columns.{Columns}
 use Rattle.filter.specs.declared.answers.ReadAnswer.{ReadAnswer}
-use Rattle.filter.specs.declared.answers.Refusal.TheVariants.{None}
 use Rattle.filter.specs.Calls.{Read, in_range, has_room, read_refusal}
 use Rattle.filter.specs.Table.{first_eight, hashes_of, ids_of, is_table}
 use Rattle.message.specs.declared.kinds.Message.{Message}
@@ -34,18 +33,30 @@ pub record Kept (table known marks : List ℕ) : Type 0 where
   pub known-good : is_table first_eight known ≡ true
   pub marks-room : 8192 ≤ length marks
 
--- what a walk over the items of a message found
-pub record Walked (w : Walk) (fine : Bool) (n : ℕ) (marks bytes bytes₀ : List ℕ) : Type 0 where
-  pub fine_is : fine ≡ w.fine
-  pub count_is : fine ≡ true → n ≡ length w.hashes
-  pub marks_are : fine ≡ true → marks ≡ w.marks
-  pub bytes_are : fine ≡ true → bytes ≡ over 0 (packed 512 w.hashes) bytes₀
+-- an answered place: none stands for 8,192
+abbrev pub IsPlace : Option ℕ → ℕ → Type 0
+IsPlace None q = q ≡ 8192
+IsPlace (Some p) q = (p ≡ q) × (p < 8192)
 
--- what a walk over offered hashes found: the new ones in order
-pub record Offered (w : News) (fine : Bool) (n : ℕ) (bytes bytes₀ : List ℕ) : Type 0 where
-  pub fine_is : fine ≡ w.fine
-  pub count_is : fine ≡ true → n ≡ length w.hashes
-  pub bytes_are : fine ≡ true → bytes ≡ over 0 (packed 512 w.hashes) bytes₀
+-- hashes gathered in order
+pub record Gathered (fine : Bool) (hashes : List ℕ) (n : ℕ) (bytes bytes₀ : List ℕ) : Type 0 where
+  pub good : fine ≡ true
+  pub count : n ≡ length hashes
+  pub bytes-are : bytes ≡ over 0 (packed 512 hashes) bytes₀
+
+-- what the walk over the IDs of an INQUIRY found: how many hashes it gathered, or none where an ID was bad
+abbrev pub Walked : Walk → Option ℕ → (marks bytes bytes₀ : List ℕ) → Type 0
+Walked w None marks bytes bytes₀ = w.fine ≡ false
+Walked w (Some n) marks bytes bytes₀ = Gathered w.fine w.hashes n bytes bytes₀ × (marks ≡ w.marks)
+
+-- what the walk over the hashes of a DEMAND found
+abbrev pub Served : Walk → Bool → List ℕ → Type 0
+Served w r marks = (r ≡ w.fine) × (r ≡ true → marks ≡ w.marks)
+
+-- what the walk over the hashes of an OFFER found: the new ones in order, or none where a hash was bad
+abbrev pub Offered : News → Option ℕ → (bytes bytes₀ : List ℕ) → Type 0
+Offered w None bytes bytes₀ = w.fine ≡ false
+Offered w (Some n) bytes bytes₀ = Gathered w.fine w.hashes n bytes bytes₀
 
 -- 64 bytes that are a number: a checksum as it is made
 pub record Sum (x : ℕ) (acc : List ℕ) : Type 0 where

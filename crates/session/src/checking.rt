@@ -16,7 +16,7 @@ pub(crate) fn checksum(table: &[u8], known: &[u8], marks: &[u8]) -> [u8; 64]
 {
     let mut acc = [0u8; 64];
     xor_all(&mut acc, table);
-    xor_met(&mut acc, known, marks);
+    xor_met(&mut acc, known, &marks[4096..]);
     acc
 }
 
@@ -24,38 +24,28 @@ pub(crate) fn checksum(table: &[u8], known: &[u8], marks: &[u8]) -> [u8; 64]
 fn xor_all(acc: &mut [u8; 64], s: &[u8])
     ensures { Adds acc.old (foldr bit_xor 0 (hashes_of s.now)) acc.new }
 {
-    let n = filter::table::count(s);
-    let mut i: usize = 0;
-    while i < n {
-        xor_into(acc, s, 64 * i);
-        i += 1;
+    for hash in s.chunks_exact(64) {
+        xor_into(acc, hash);
     }
 }
 
-// Those that are met.
+// Those that are met, each by its mark.
 fn xor_met(acc: &mut [u8; 64], known: &[u8], marks: &[u8])
-    requires { 4096 + length (hashes_of known.now) ≤ length marks.now }
-    ensures { Adds acc.old
-        (foldr bit_xor 0 (marked is_met (hashes_of known.now) (part 4096 (length (hashes_of known.now)) marks.now))) acc.new }
+    ensures { Adds acc.old (foldr bit_xor 0 (marked is_met (hashes_of known.now) marks.now)) acc.new }
 {
-    let n = filter::table::count(known);
-    let mut i: usize = 0;
-    while i < n {
-        if form::marks::is_met(marks[4096 + i]) {
-            xor_into(acc, known, 64 * i);
+    for (hash, mark) in known.chunks_exact(64).zip(marks) {
+        if form::marks::is_met(*mark) {
+            xor_into(acc, hash);
         }
-        i += 1;
     }
 }
 
-// 64 bytes of a slice.
-pub(crate) fn xor_into(acc: &mut [u8; 64], s: &[u8], at: usize)
-    requires { at + 64 ≤ length s.now }
-    ensures { Adds acc.old (joined 8 (part at 64 s.now)) acc.new }
+// One hash.
+pub(crate) fn xor_into(acc: &mut [u8; 64], hash: &[u8])
+    requires { length hash.now ≡ 64 }
+    ensures { Adds acc.old (joined 8 hash.now) acc.new }
 {
-    let mut k: usize = 0;
-    while k < 64 {
-        acc[k] = acc[k] ^ s[at + k];
-        k += 1;
+    for (k, b) in hash.iter().enumerate() {
+        acc[k] ^= *b;
     }
 }

@@ -24,11 +24,10 @@ pub(crate) fn on_element(
         × (64 ≤ length hash.now) × (295008 ≤ length out.old) × (came ≤ 8192) }
     ensures { ElementSteps numbers table.now records.now marks.old hash.now out.old came unmet result marks.new out.new }
 {
-    let e = 64 * numbers.demanded as usize;
-    let p = crate::places::unmet_place(table, &records[..e], marks, hash);
-    if crate::places::NOWHERE <= p {
+    let known = &records[..64 * numbers.demanded as usize];
+    let Some(p) = crate::places::unmet_place(table, known, marks, &hash[..64]) else {
         return form::numbers::aborted(BREACH, numbers);
-    }
+    };
     let last = (numbers.state == WAITING) & (unmet == 1);
     let all = (numbers.state == ACTIVE) & (came + 1 == numbers.inquired as usize);
     if all | last {
@@ -53,10 +52,10 @@ fn last_element(
         × (64 ≤ length hash.now) × (295008 ≤ length out.old) × (p < 8192) }
     ensures { LastSteps numbers table.now records.now marks.old hash.now out.old p last result marks.new out.new }
 {
-    let e = 64 * numbers.demanded as usize;
-    let mut check = crate::checking::checksum(table, &records[..e], marks);
-    crate::checking::xor_into(&mut check, hash, 0);
-    if last & !crate::places::same_hash(records, FAR, &check, 0) {
+    let known = &records[..64 * numbers.demanded as usize];
+    let mut check = crate::checking::checksum(table, known, marks);
+    crate::checking::xor_into(&mut check, &hash[..64]);
+    if last && records[FAR..FAR + 64] != check[..] {
         return form::numbers::aborted(CHECKSUM, numbers);
     }
     marks[p] = 8;
@@ -83,12 +82,11 @@ pub(crate) fn on_done(
     }
     let d = numbers.demanded;
     if (numbers.state == PASSIVE) & !(unmet == 0) {
-        crate::copying::copy(message, 4, 64, records, FAR);
+        records[FAR..FAR + 64].copy_from_slice(&message[4..68]);
         return form::numbers::changed(numbers, WAITING, numbers.done, d, 0, 0);
     }
-    let e = 64 * d as usize;
-    let check = crate::checking::checksum(table, &records[..e], marks);
-    if !crate::places::same_hash(message, 4, &check, 0) {
+    let check = crate::checking::checksum(table, &records[..64 * d as usize], marks);
+    if message[4..68] != check[..] {
         return form::numbers::aborted(CHECKSUM, numbers);
     }
     if numbers.state == PASSIVE {

@@ -94,7 +94,15 @@ pub(crate) fn on_last(
     }
     if f.complete {
         return open(
-            numbers, table, marks, inquired, ours, theirs, out, size, salt, f.ours, f.theirs,
+            numbers,
+            table,
+            marks,
+            inquired,
+            &ours[..f.ours],
+            &theirs[..f.theirs],
+            out,
+            size,
+            salt,
         );
     }
     let next = crate::swapping::swapped(numbers, size, salt);
@@ -188,7 +196,7 @@ fn failed(refusal: u32, ours: usize, theirs: usize, swaps: u32) -> Fate
     }
 }
 
-// A complete reading of a ours and b theirs: the elements of ours are offered, theirs inquired, and DONE goes if there is none.
+// A complete reading: the elements of ours are offered, theirs inquired, and DONE goes if there is none.
 fn open(
     numbers: Numbers,
     table: &[u8],
@@ -199,24 +207,22 @@ fn open(
     out: &mut [u8],
     size: u32,
     salt: u32,
-    a: usize,
-    b: usize,
 ) -> Answer
-    requires { Opens table.now (take a ours.now) marks.old × (a ≤ length ours.now) × (b ≤ length theirs.now) × (a ≤ 4096) × (b ≤ 4096) × (salt < 64)
+    requires { Opens table.now ours.now marks.old × (length ours.now ≤ 4096) × (length theirs.now ≤ 4096) × (salt < 64)
         × (4096 ≤ length inquired.old) × (295008 ≤ length out.old) }
-    ensures { open_turn' result marks.new inquired.new out.new
-        ≡ open_turn numbers table.now size salt (take a ours.now) (take b theirs.now) marks.old inquired.old out.old }
+    ensures { open_turn' result marks.new inquired.new out.new ≡ open_turn numbers table.now size salt ours.now theirs.now marks.old inquired.old out.old }
 {
-    let sent = tell(table, marks, inquired, ours, theirs, out, salt, a, b);
-    if b == 0 {
-        let check = crate::checking::checksum(table, &table[..0], marks);
+    let sent = tell(table, marks, inquired, ours, theirs, out, salt);
+    if theirs.is_empty() {
+        let check = crate::checking::checksum(table, &[], marks);
         let end = crate::sending::send_done(&check, out, sent);
         return form::numbers::answered(end, 0, form::numbers::opened(numbers, size, salt, 1, 0));
     }
+    let wanted = theirs.len() as u32;
     form::numbers::answered(
         sent,
         0,
-        form::numbers::opened(numbers, size, salt, 0, b as u32),
+        form::numbers::opened(numbers, size, salt, 0, wanted),
     )
 }
 
@@ -229,34 +235,29 @@ fn tell(
     theirs: &[u64],
     out: &mut [u8],
     salt: u32,
-    a: usize,
-    b: usize,
 ) -> usize
-    requires { Opens table.now (take a ours.now) marks.old × (a ≤ length ours.now) × (b ≤ length theirs.now) × (a ≤ 4096) × (b ≤ 4096) × (salt < 64)
+    requires { Opens table.now ours.now marks.old × (length ours.now ≤ 4096) × (length theirs.now ≤ 4096) × (salt < 64)
         × (4096 ≤ length inquired.old) × (295008 ≤ length out.old) }
-    ensures { (marks.new ≡ mark_all (ids_of first_eight table.now) (take a ours.now) marks.old)
-        × (inquired.new ≡ inserted_all 0 (take b theirs.now) inquired.old)
-        × Sent (inquiries_of salt (take b theirs.now) ++ offers_of (hashes_at (hashes_of table.now) (ids_of first_eight table.now) (take a ours.now))) out.old out.new result }
+    ensures { (marks.new ≡ mark_all (ids_of first_eight table.now) ours.now marks.old)
+        × (inquired.new ≡ inserted_all 0 theirs.now inquired.old)
+        × Sent (inquiries_of salt theirs.now ++ offers_of (hashes_at (hashes_of table.now) (ids_of first_eight table.now) ours.now)) out.old out.new result }
 {
     let mut hashes = [0u8; 262144];
-    offer_all(table, marks, ours, a, &mut hashes);
-    crate::inserting::insert_ids(theirs, b, inquired);
-    let next = crate::sending::send_inquiries(&theirs[..b], salt, out, 0);
-    let e = 64 * a;
-    crate::sending::send_offers(&hashes[..e], out, next)
+    offer_all(table, marks, ours, &mut hashes);
+    crate::inserting::insert_ids(theirs, inquired);
+    let next = crate::sending::send_inquiries(theirs, salt, out, 0);
+    crate::sending::send_offers(&hashes[..64 * ours.len()], out, next)
 }
 
-// The first a elements of a list of IDs of the table marked offered, and their hashes gathered in order.
-fn offer_all(table: &[u8], marks: &mut [u8], ours: &[u64], a: usize, hashes: &mut [u8])
-    requires { Opens table.now (take a ours.now) marks.old × (a ≤ length ours.now) × (a ≤ 4096) × (262144 ≤ length hashes.old) }
-    ensures { (marks.new ≡ mark_all (ids_of first_eight table.now) (take a ours.now) marks.old)
-        × (hashes.new ≡ over 0 (packed 512 (hashes_at (hashes_of table.now) (ids_of first_eight table.now) (take a ours.now))) hashes.old) }
+// The elements of a list of IDs of the table marked offered, and their hashes gathered in order.
+fn offer_all(table: &[u8], marks: &mut [u8], ours: &[u64], hashes: &mut [u8])
+    requires { Opens table.now ours.now marks.old × (length ours.now ≤ 4096) × (262144 ≤ length hashes.old) }
+    ensures { (marks.new ≡ mark_all (ids_of first_eight table.now) ours.now marks.old)
+        × (hashes.new ≡ over 0 (packed 512 (hashes_at (hashes_of table.now) (ids_of first_eight table.now) ours.now)) hashes.old) }
 {
-    let mut i: usize = 0;
-    while i < a {
-        let p = filter::table::id_position(table, ours[i]);
+    for (i, id) in ours.iter().enumerate() {
+        let p = filter::table::id_position(table, *id);
         marks[p] = 2;
-        crate::copying::copy(table, 64 * p, 64, hashes, 64 * i);
-        i += 1;
+        hashes[64 * i..64 * i + 64].copy_from_slice(&table[64 * p..64 * p + 64]);
     }
 }

@@ -4,7 +4,6 @@
 
 mod asking;
 mod checking;
-mod copying;
 mod ends;
 mod filters;
 mod inserting;

@@ -27,17 +27,16 @@ pub(crate) fn on_inquiry(
     if salt != numbers.salt {
         return form::numbers::aborted(BREACH, numbers);
     }
-    let e = 64 * numbers.demanded as usize;
+    let known = &records[..64 * numbers.demanded as usize];
     let mut work = [0u8; 8192];
-    crate::copying::copy(marks, 0, 8192, &mut work, 0);
+    work.copy_from_slice(&marks[..8192]);
     let mut hashes = [0u8; 262144];
-    let g = crate::asking::ask_all(table, &records[..e], &mut work, message, n, &mut hashes);
-    if !g.fine {
+    let ids = &message[8..8 + 8 * n];
+    let Some(m) = crate::asking::ask_all(table, known, &mut work, ids, &mut hashes) else {
         return form::numbers::aborted(BREACH, numbers);
-    }
-    crate::copying::copy(&work, 0, 8192, marks, 0);
-    let to = 64 * g.count;
-    let sent = crate::sending::send_offers(&hashes[..to], out, 0);
+    };
+    marks[..8192].copy_from_slice(&work);
+    let sent = crate::sending::send_offers(&hashes[..64 * m], out, 0);
     form::numbers::changed(
         numbers,
         numbers.state,
@@ -62,14 +61,15 @@ pub(crate) fn on_demand(
     ensures { mark_turn result marks.new out.new
         ≡ demand_turn numbers (hashes_of table.now) (hashes_of (take (64 * numbers.demanded) records.now)) (unpacked 512 n (part 4 (64 * n) message.now)) marks.old out.old }
 {
-    let e = 64 * numbers.demanded as usize;
+    let known = &records[..64 * numbers.demanded as usize];
     let mut work = [0u8; 8192];
-    crate::copying::copy(marks, 0, 8192, &mut work, 0);
-    if !crate::asking::serve_all(table, &records[..e], &mut work, message, n) {
+    work.copy_from_slice(&marks[..8192]);
+    let hashes = &message[4..4 + 64 * n];
+    if !crate::asking::serve_all(table, known, &mut work, hashes) {
         return form::numbers::aborted(BREACH, numbers);
     }
-    crate::copying::copy(&work, 0, 8192, marks, 0);
-    crate::copying::copy(message, 4, 64 * n, out, 0);
+    marks[..8192].copy_from_slice(&work);
+    out[..64 * n].copy_from_slice(hashes);
     form::numbers::changed(numbers, numbers.state, numbers.done, numbers.demanded, 0, n)
 }
 
@@ -91,33 +91,30 @@ pub(crate) fn on_offer(
         ≡ offer_turn numbers (hashes_of table.now) (hashes_of (take (64 * numbers.demanded) records.old)) (take numbers.inquired inquired.now) (unpacked 512 n (part 4 (64 * n) message.now)) concerned records.old marks.old out.old }
 {
     let demanded = numbers.demanded as usize;
-    let k = numbers.inquired as usize;
-    let e = 64 * demanded;
+    let known = &records[..64 * demanded];
+    let inquired = &inquired[..numbers.inquired as usize];
     let active = numbers.state == ACTIVE;
+    let offered = &message[4..4 + 64 * n];
     let mut fresh = [0u8; 65472];
     let mut hashes = [0u8; 65472];
-    let g = crate::offering::new_all(
+    let Some(m) = crate::offering::new_all(
         table,
-        &records[..e],
+        known,
         inquired,
-        k,
         active,
-        message,
-        n,
+        offered,
         &mut fresh,
         &mut hashes,
-    );
-    if !g.fine {
+    ) else {
         return form::numbers::aborted(BREACH, numbers);
-    }
-    let m = g.count;
-    let more = crate::offering::count_extra(&hashes, m, inquired, k);
-    if (4096 < concerned + more) | (4096 < demanded + m) {
+    };
+    let new = &hashes[..64 * m];
+    let more = crate::offering::count_extra(new, inquired);
+    if 4096 < concerned + more || 4096 < demanded + m {
         return form::numbers::aborted(LIMIT, numbers);
     }
-    crate::offering::store_all(records, marks, demanded, &hashes, m);
-    let to = 64 * m;
-    let sent = crate::sending::send_demands(&hashes[..to], out, 0);
+    crate::offering::store_all(records, marks, demanded, new);
+    let sent = crate::sending::send_demands(new, out, 0);
     let now = (demanded + m) as u32;
     form::numbers::changed(numbers, numbers.state, numbers.done, now, sent, 0)
 }

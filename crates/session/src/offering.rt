@@ -1,12 +1,10 @@
 // OFFER: the hashes of a message judged, the new ones gathered, and put among the demanded.
-ghost use Rattle.std.specs.Prelude.{◌≡◌, true, ◌+◌, ◌*◌, ◌≤◌, length, take};
-ghost use Rattle.bucket.specs.Digits.{joined, unpacked};
-ghost use Rattle.bucket.specs.Lists.{part};
+ghost use Rattle.std.specs.Prelude.{◌≡◌, IfSome, true, cond, ◌+◌, ◌*◌, ◌/◌, ◌≤◌, length};
+ghost use Rattle.bucket.specs.Digits.{joined};
 ghost use Rattle.filter.specs.Table.{first_eight, hashes_of, is_table};
 ghost use Rattle.session.specs.Moves.{new_all, item_in, extra, stored, store_all};
 ghost use Rattle.session.specs.Ready.{Offered};
-
-use crate::asking::Gathered;
+ghost use Rattle.session.specs.declared.offering.Item.TheVariants.{Known, New, Bad};
 
 // A hash offered.
 #[derive(Drop)]
@@ -18,48 +16,35 @@ pub(crate) enum Item {
     Bad,
 }
 
-// The n hashes of an OFFER: the new ones are gathered in order. `fresh` holds them ascending as they come.
+// The hashes of an OFFER: the new ones are gathered in order, and `fresh` holds them ascending as they come. Answers how many, or none for a breach.
 pub(crate) fn new_all(
     table: &[u8],
     known: &[u8],
     inquired: &[u64],
-    k: usize,
     active: bool,
-    message: &[u8],
-    n: usize,
+    offered: &[u8],
     fresh: &mut [u8],
     hashes: &mut [u8],
-) -> Gathered
-    requires { (is_table first_eight table.now ≡ true) × (is_table first_eight known.now ≡ true) × (k ≤ length inquired.now) × (k ≤ 4096)
-        × (4 + 64 * n ≤ length message.now) × (n ≤ 1023) × (65472 ≤ length fresh.old) × (65472 ≤ length hashes.old) }
-    ensures { Offered (new_all first_eight (hashes_of table.now) (hashes_of known.now) (take k inquired.now) active (unpacked 512 n (part 4 (64 * n) message.now)))
-        result.fine result.count hashes.new hashes.old × (result.count ≤ n) }
+) -> Option<usize>
+    requires { (is_table first_eight table.now ≡ true) × (is_table first_eight known.now ≡ true) × (length inquired.now ≤ 4096)
+        × (length offered.now ≤ 65472) × (65472 ≤ length fresh.old) × (65472 ≤ length hashes.old) }
+    ensures walked { Offered (new_all first_eight (hashes_of table.now) (hashes_of known.now) inquired.now active (hashes_of offered.now))
+        result hashes.new hashes.old }
+    ensures few { IfSome result (λ m. 64 * m ≤ length offered.now) }
 {
     let mut m: usize = 0;
-    let mut i: usize = 0;
-    while i < n {
-        let at = 4 + 64 * i;
-        let e = 64 * m;
-        match judge_item(table, known, &fresh[..e], inquired, k, active, message, at) {
-            Item::Bad => {
-                return Gathered {
-                    fine: false,
-                    count: 0,
-                };
-            }
+    for hash in offered.chunks_exact(64) {
+        match judge_item(table, known, &fresh[..64 * m], inquired, active, hash) {
+            Item::Bad => return None,
             Item::New => {
-                crate::inserting::insert_hash(fresh, m, message, at);
-                crate::copying::copy(message, at, 64, hashes, 64 * m);
+                crate::inserting::insert_hash(fresh, m, hash);
+                hashes[64 * m..64 * m + 64].copy_from_slice(hash);
                 m += 1;
             }
             Item::Known => {}
         }
-        i += 1;
     }
-    Gathered {
-        fine: true,
-        count: m,
-    }
+    Some(m)
 }
 
 // One hash offered, judged against the table, the demanded ones and the new ones so far.
@@ -68,64 +53,54 @@ fn judge_item(
     known: &[u8],
     fresh: &[u8],
     inquired: &[u64],
-    k: usize,
     active: bool,
-    message: &[u8],
-    at: usize,
+    hash: &[u8],
 ) -> Item
-    requires { (length table.now ≤ 262144) × (length known.now ≤ 262144) × (length fresh.now ≤ 262144) × (k ≤ length inquired.now) × (k ≤ 4096) × (at + 64 ≤ length message.now) }
-    ensures { result ≡ item_in (hashes_of table.now) (hashes_of known.now) (hashes_of fresh.now) (take k inquired.now) active (joined 8 (part at 64 message.now)) }
+    requires { (length table.now ≤ 262144) × (length known.now ≤ 262144) × (length fresh.now ≤ 262144) × (length inquired.now ≤ 4096) × (length hash.now ≡ 64) }
+    ensures { result ≡ item_in (hashes_of table.now) (hashes_of known.now) (hashes_of fresh.now) inquired.now active (joined 8 hash.now) }
 {
-    let id = bucket::bytes::number_at(message, at, 8);
-    let p = crate::places::place_of(table, known, id);
-    if p < crate::places::NOWHERE {
-        if crate::places::is_hash_at(table, known, p, message, at) {
-            return Item::Known;
-        }
-        return Item::Bad;
+    let id = bucket::bytes::number_at(hash, 0, 8);
+    if let Some(p) = crate::places::place_of(table, known, id) {
+        return known_if(crate::places::hash_at(table, known, p) == hash);
     }
-    if filter::table::holds_id(fresh, id) {
-        let q = filter::table::id_position(fresh, id);
-        if crate::places::same_hash(fresh, 64 * q, message, at) {
-            return Item::Known;
-        }
-        return Item::Bad;
+    if let Some(i) = crate::places::index_of(fresh, id) {
+        return known_if(&fresh[64 * i..64 * i + 64] == hash);
     }
-    if active {
-        if !crate::inserting::holds_id(inquired, k, id) {
-            return Item::Bad;
-        }
+    if active && !crate::inserting::holds_id(inquired, id) {
+        return Item::Bad;
     }
     Item::New
 }
 
-// How many of the m gathered hashes were not inquired.
-pub(crate) fn count_extra(hashes: &[u8], m: usize, inquired: &[u64], k: usize) -> usize
-    requires { (64 * m ≤ length hashes.now) × (m ≤ 1023) × (k ≤ length inquired.now) × (k ≤ 4096) }
-    ensures { (result ≡ extra first_eight (take k inquired.now) (hashes_of (take (64 * m) hashes.now))) × (result ≤ m) }
+// By whether the hash that has its ID is the one offered.
+fn known_if(same: bool) -> Item
+    ensures { result ≡ cond same Known Bad }
 {
-    let mut c: usize = 0;
-    let mut i: usize = 0;
-    while i < m {
-        let id = bucket::bytes::number_at(hashes, 64 * i, 8);
-        if !crate::inserting::holds_id(inquired, k, id) {
-            c += 1;
-        }
-        i += 1;
-    }
-    c
+    if same { Item::Known } else { Item::Bad }
 }
 
-// The m gathered hashes put among the n demanded ones, with a mark each.
-pub(crate) fn store_all(records: &mut [u8], marks: &mut [u8], n: usize, hashes: &[u8], m: usize)
-    requires { (262144 ≤ length records.old) × (8192 ≤ length marks.old) × (n + m ≤ 4096) × (64 * m ≤ length hashes.now) }
-    ensures { stored records.new marks.new
-        ≡ store_all n (hashes_of (take (64 * m) hashes.now)) (stored records.old marks.old) }
+// How many of the gathered hashes were not inquired.
+pub(crate) fn count_extra(hashes: &[u8], inquired: &[u64]) -> usize
+    requires { length inquired.now ≤ 4096 }
+    ensures { (result ≡ extra first_eight inquired.now (hashes_of hashes.now)) × (result ≤ length hashes.now / 64) }
 {
-    let mut i: usize = 0;
-    while i < m {
-        let p = crate::inserting::insert_hash(records, n + i, hashes, 64 * i);
-        crate::inserting::insert_mark(marks, n + i, p);
-        i += 1;
+    let mut n: usize = 0;
+    for hash in hashes.chunks_exact(64) {
+        if !crate::inserting::holds_id(inquired, bucket::bytes::number_at(hash, 0, 8)) {
+            n += 1;
+        }
+    }
+    n
+}
+
+// The gathered hashes put among the n demanded ones, with a mark each.
+pub(crate) fn store_all(records: &mut [u8], marks: &mut [u8], mut n: usize, hashes: &[u8])
+    requires { (262144 ≤ length records.old) × (8192 ≤ length marks.old) × (64 * n + length hashes.now ≤ 262144) }
+    ensures { stored records.new marks.new ≡ store_all n (hashes_of hashes.now) (stored records.old marks.old) }
+{
+    for hash in hashes.chunks_exact(64) {
+        let p = crate::inserting::insert_hash(records, n, hash);
+        crate::inserting::insert_mark(marks, n, p);
+        n += 1;
     }
 }

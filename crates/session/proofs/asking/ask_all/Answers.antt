@@ -1,91 +1,92 @@
-use mathlib.Core.Path.{sym, ap, ◌∙◌}
-use mathlib.Core.Bool.{Bool, ◌||◌}
-use Prim.Native.Nat.{◌*◌, ◌<◌}
+use mathlib.Core.Path.{◌≡◌, refl, sym, ap, ap₂, ◌∙◌}
+use mathlib.Core.Bool.{Bool, true, ◌||◌}
+use mathlib.Core.List.{List, ◌∷◌}
+use Prim.Native.Nat.{ℕ, ◌+◌, ◌*◌, ◌%◌, ◌≤◌}
 use native.Mathlib.Omega.{arith}
+use borrow.Author.Tests.{le-leb, lt-leb}
 use lib.Dec.{leb}
-use lib.ListN.{length}
-use Rattle.bucket.specs.Digits.{unpacked}
-use Rattle.bucket.specs.Lists.{part}
-use Rattle.session.proofs.PlaceLaws.{held-placed, place-placed, table-short}
-use Rattle.session.proofs.AskLaws.{item_read, items_inside, items_past, asked-few, asking-start, asking_passes, asking-stops, asking-next, asking-end}
+use lib.ListN.{length, get_or, length-append}
+use Rattle.bucket.specs.Lists.{over}
+use Rattle.ledger.specs.Memory.{is_asked}
+use Rattle.session.proofs.ChunkLaws.{ids_in, ids-cons, ids_none, lent-length, lent_over}
+use Rattle.session.proofs.PlaceLaws.{held_none, place-placed, place-size, table-short}
+use Rattle.session.proofs.AskLaws.{asking-start, asking_passes, asking-stops, asking-next, asking-end}
 use Rattle.session.proofs.asking.ask_all.Goals as goal
-use Rattle.session.proofs.asking.ask_all.Goals.{then-is_held+else-is_asked-m, else-is_held}
-use Rattle.session.proofs.asking.ask_all.Goals.{Then-is_held}
+use Rattle.session.proofs.asking.ask_all.Goals.{After-number_at, After-hash_at, then-is_asked-via-then-is_asked, then-is_asked-via-else-is_asked+then-m-ge4096}
 
--- a place where something is held
-here : (c : Then-is_held) → c.place_of-p.result < 8192
-here c = held-placed c.loop-i.marks c.place_of-p.result (sym c.is_held.ensures ∙ c.if-is_held.true)
+-- the ID is the first of those that were left
+left : (c : After-number_at) → ids_in c.loop-id.id-iterator.rest.now ≡ c.number_at.result ∷ ids_in c.next.new.self.rest.now
+left c = let step = c.in-Some.ensures.steps in
+    ids-cons c.in-Some.id.now c.next.new.self.rest.now step.1.0 (step.1.1 ∙ c.loop-id.invariant.size) c.loop-id.invariant.whole c.number_at.ensures
 
-inside : (c : Then-is_held) → c.place_of-p.result < length c.loop-i.marks
-inside c = omega (arith, here c, c.requires.0.marks-room, c.loop-i.invariant.same)
+whole : (c : After-number_at) → length c.next.new.self.rest.now % 8 ≡ 0
+whole c = let step = c.in-Some.ensures.steps in
+    omega (arith, ap length step.1.0, length-append c.in-Some.id.now c.next.new.self.rest.now, step.1.1, c.loop-id.invariant.size, c.loop-id.invariant.whole)
 
-pub loop-i-init : goal.loop-i-init
-loop-i-init c = let a = c.args in
-    asking-start a.table.now a.known.now a.marks.now a.hashes.now (unpacked 64 a.n (part 8 (8 * a.n) a.message.now))
+room : (c : After-hash_at) → 64 * c.loop-id.m + 64 ≤ length c.loop-id.hashes
+room c = omega (arith, c.if-m-ge4096.false, c.requires.2, c.loop-id.invariant.walk.gathering.same)
 
-pub is_held-requires : goal.is_held-requires
-is_held-requires c = omega (arith, c.requires.0.marks-room, c.loop-i.invariant.same)
+pub loop-id-init : goal.loop-id-init
+loop-id-init c = let a = c.args in
+    rw (c.into_iter-id-iterator.ensures.into_iter_gives, c.chunks_exact-id-items.ensures.rest, c.chunks_exact-id-items.ensures.size) record {
+      size = refl;
+      whole = c.requires.1;
+      walk = asking-start a.table.now a.known.now a.marks.now a.hashes.now (ids_in a.ids.now);
+    }
 
-pub bounds-marks-p : goal.bounds-marks-p
-bounds-marks-p c = inside (goal.at.bounds-marks-p c).Then-is_held
+pub place_of-requires : goal.place_of-requires
+place_of-requires c = (table-short c.args.table.now c.requires.0.table-good, table-short c.args.known.now c.requires.0.known-good)
 
-pub shape_of-marks-then-is_asked-m : goal.shape_of-marks-then-is_asked-m
-shape_of-marks-then-is_asked-m c = c.loop-i.invariant.same
+pub loop-id-preserved-in_default : goal.loop-id-preserved-in_default
+loop-id-preserved-in_default c = let at = (goal.at.loop-id-preserved-in_default c).After-number_at in
+    record {
+      size = c.in-Some.ensures.steps.0 ∙ c.loop-id.invariant.size;
+      whole = whole at;
+      walk = asking_passes c.loop-id.invariant.walk (left at) (sym c.in_default.ensures) (sym (held_none c.loop-id.marks 8192 (omega arith) (omega arith)));
+    }
 
-pub shape_of-hashes-then-is_asked-m : goal.shape_of-hashes-then-is_asked-m
-shape_of-hashes-then-is_asked-m c = c.loop-i.invariant.gathering.same
+pub loop-id-preserved-then-not-is_held : goal.loop-id-preserved-then-not-is_held
+loop-id-preserved-then-not-is_held c = let at = (goal.at.loop-id-preserved-then-not-is_held c).After-number_at in
+    record {
+      size = c.in-Some.ensures.steps.0 ∙ c.loop-id.invariant.size;
+      whole = whole at;
+      walk = asking_passes c.loop-id.invariant.walk (left at) c.in-Some-place_of.ensures.0 (sym c.is_held.ensures ∙ c.if-not-is_held.true);
+    }
 
-pub returns-then-is_asked-m : goal.returns-then-is_asked-m
-returns-then-is_asked-m c = let a = c.args in
-    let at = c.loop-i in
-    asking-stops at.invariant (items_inside 64 a.n at.i (part 8 (8 * a.n) a.message.now) c.loop-i-test.true)
-    (item_read 8 a.n 8 at.i a.message.now c.requires.1 c.loop-i-test.true c.number_at-id.ensures)
-    c.place_of-p.ensures (sym c.is_held.ensures ∙ c.if-is_held.true)
-    (ap (λ (t : Bool). t || leb 4096 at.m) (sym c.is_asked.ensures) ∙ c.if-is_asked-m.true)
+pub returns-then-is_asked : goal.returns-then-is_asked
+returns-then-is_asked c =
+    asking-stops c.loop-id.invariant.walk (left (goal.at.returns-then-is_asked c).After-number_at) c.in-Some-place_of.ensures.0
+    (sym c.is_held.ensures ∙ c.if-not-is_held.false)
+    (elim c.then-is_asked.branch [
+      | then-is_asked-via-then-is_asked w ↦ ap (λ (t : Bool). t || leb 4096 c.loop-id.m) (sym c.is_asked.ensures ∙ w.if-is_asked.true)
+      | then-is_asked-via-else-is_asked+then-m-ge4096 w ↦ ap₂ ◌||◌ (sym c.is_asked.ensures ∙ w.if-is_asked.false) (le-leb 4096 c.loop-id.m w.if-m-ge4096.true)
+    ])
 
-pub bounds-marks-p-then-is_held : goal.bounds-marks-p-then-is_held
-bounds-marks-p-then-is_held c = inside (goal.at.bounds-marks-p-then-is_held c).Then-is_held
+pub hash_at-requires : goal.hash_at-requires
+hash_at-requires c = let k = c.requires.0 in
+    let place = c.in-Some-place_of.ensures in
+    place-placed c.args.table.now c.args.known.now c.number_at.result
+    (table-short c.args.table.now k.table-good) (table-short c.args.known.now k.known-good) place.0 place.1
 
-pub overflow_mul-marks : goal.overflow_mul-marks
-overflow_mul-marks c = omega (arith, c.slice_known-then-is_held-2-1.given c.place_of-p.result)
+pub copy_from_slice-requires : goal.copy_from_slice-requires
+copy_from_slice-requires c =
+    lent-length (64 * c.loop-id.m) 64 c.loop-id.hashes (room (goal.at.copy_from_slice-requires c).After-hash_at)
+    ∙ sym (place-size c.args.table.now c.args.known.now c.in-Some-place_of.p c.hash_at.ensures)
 
-pub overflow_add-marks : goal.overflow_add-marks
-overflow_add-marks c = omega (arith, c.slice_known-then-is_held-2-1.given c.place_of-p.result)
-
-pub bounds-marks-p-then-is_held-2 : goal.bounds-marks-p-then-is_held-2
-bounds-marks-p-then-is_held-2 c = inside (goal.at.bounds-marks-p-then-is_held-2 c).Then-is_held
-
-pub overflow_mul-m : goal.overflow_mul-m
-overflow_mul-m c = omega (arith, c.loop-i.invariant.few)
-
-pub copy_hash-requires : goal.copy_hash-requires
-copy_hash-requires c = let a = c.args in
-    let at = c.loop-i in (
-      place-placed a.table.now a.known.now c.number_at-id.result (table-short a.table.now c.requires.0.table-good) (table-short a.known.now c.requires.0.known-good)
-          c.place_of-p.ensures (here (goal.at.copy_hash-requires c).Then-is_held),
-      omega (arith, c.requires.2, at.invariant.gathering.same, asked-few c.is_asked.result at.m c.if-is_asked-m.false),
-    )
-
-pub overflow_add-m : goal.overflow_add-m
-overflow_add-m c = omega (arith, c.loop-i.invariant.few)
-
-pub loop-i-preserved : goal.loop-i-preserved
-loop-i-preserved c = let a = c.args in
-    let at = c.loop-i in
-    let l = items_inside 64 a.n at.i (part 8 (8 * a.n) a.message.now) c.loop-i-test.true in
-    let item = item_read 8 a.n 8 at.i a.message.now c.requires.1 c.loop-i-test.true c.number_at-id.ensures in
-    elim c.if-is_held.branch [
-      | then-is_held+else-is_asked-m w ↦ asking-next at.invariant l item c.place_of-p.ensures (sym c.is_held.ensures ∙ w.if-is_held.true)
-          (ap (λ (t : Bool). t || leb 4096 at.m) (sym w.is_asked.ensures) ∙ w.if-is_asked-m.false) c.requires.2 w.marks-is (w.hashes-is ∙ w.copy_hash.ensures) w.m-is
-      | else-is_held w ↦ asking_passes at.invariant l item c.place_of-p.ensures (sym c.is_held.ensures ∙ w.if-is_held.false) w.marks-is w.hashes-is w.m-is
-    ]
-
-pub shape_of-marks : goal.shape_of-marks
-shape_of-marks c = c.loop-i.invariant.same
-
-pub shape_of-hashes : goal.shape_of-hashes
-shape_of-hashes c = c.loop-i.invariant.gathering.same
+pub loop-id-preserved : goal.loop-id-preserved
+loop-id-preserved c = let at = (goal.at.loop-id-preserved c).After-number_at in
+    let a = c.args in
+    let p = c.in-Some-place_of.p in
+    let copied = c.copy_from_slice.ensures.after ∙ c.hash_at.ensures in
+    record {
+      size = c.in-Some.ensures.steps.0 ∙ c.loop-id.invariant.size;
+      whole = whole at;
+      walk =
+          asking-next c.loop-id.invariant.walk (left at) c.in-Some-place_of.ensures.0 (sym c.is_held.ensures ∙ c.if-not-is_held.false)
+          (ap₂ ◌||◌ (sym c.is_asked.ensures ∙ c.if-is_asked.false) (lt-leb 4096 c.loop-id.m c.if-m-ge4096.false)) c.requires.2
+          (lent_over (64 * c.loop-id.m) 64 c.loop-id.hashes c.copy_from_slice.new.self (place-size a.table.now a.known.now p copied)
+          ∙ ap (λ (bs : List ℕ). over (64 * c.loop-id.m) bs c.loop-id.hashes) copied);
+    }
 
 pub returns : goal.returns
-returns c = let a = c.args in
-    asking-end c.loop-i.invariant (items_past 64 a.n c.loop-i.i (part 8 (8 * a.n) a.message.now) c.loop-i-test.false)
+returns c = asking-end c.loop-id.invariant.walk (ids_none c.loop-id.id-iterator.rest.now (omega (arith, c.in-None.ensures.steps.1.0, c.loop-id.invariant.size)))

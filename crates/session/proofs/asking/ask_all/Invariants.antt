@@ -1,13 +1,14 @@
--- `session::asking::ask_all` meets its contract. The invariant: the walk has come to item i. The measure is how many items are left.
--- Assumes nothing.
-use Prim.Native.Nat.{◌*◌, ◌-◌}
-use Rattle.bucket.specs.Digits.{unpacked}
-use Rattle.bucket.specs.Lists.{part}
+-- `asking::ask_all` meets its contract. The invariant: the walk has the IDs left that the iterator has. Assumes nothing.
+use mathlib.Core.Path.{◌≡◌}
+use Prim.Native.Nat.{◌%◌}
+use lib.ListN.{length}
+use Rattle.session.proofs.ChunkLaws.{ids_in}
 use Rattle.session.proofs.AskLaws.{Asking}
 use Rattle.session.proofs.asking.ask_all.Given as goal
 
-abbrev pub invariant-loop-i : goal.invariant-loop-i
-invariant-loop-i l = Asking l.table l.known l.initial.marks l.initial.hashes (unpacked 64 l.n (part 8 (8 * l.n) l.message)) l.marks l.hashes l.m l.i
-
-abbrev pub decreases-loop-i : goal.decreases-loop-i
-decreases-loop-i l = l.n - l.i
+abbrev pub invariant-loop-id : goal.invariant-loop-id
+invariant-loop-id l = record {
+  size : l.id-iterator.size ≡ 8;
+  whole : length l.id-iterator.rest.now % 8 ≡ 0;
+  walk : Asking l.table l.known l.initial.marks l.initial.hashes (ids_in l.ids) l.marks l.hashes l.m (ids_in l.id-iterator.rest.now)
+}

@@ -1,73 +1,64 @@
-use mathlib.Core.Path.{◌≡◌, refl, sym, ◌∙◌}
-use mathlib.Core.List.{List}
-use Prim.Native.Nat.{ℕ, ◌+◌, ◌*◌, ◌<◌}
+use mathlib.Core.Path.{◌≡◌, refl, sym, ap, ap₂, ◌∙◌}
+use mathlib.Core.Bool.{Bool, false, not, ◌&&◌}
+use mathlib.Core.List.{List, ◌∷◌}
 use native.Mathlib.Omega.{arith}
-use lib.ListN.{length, get_or}
-use Rattle.bucket.specs.Digits.{joined, unpacked}
-use Rattle.bucket.specs.Lists.{part}
-use Rattle.bucket.proofs.TestLaws.{test_refused, test_granted}
+use lib.ListN.{get_or}
+use Rattle.bucket.specs.Digits.{joined}
+use Rattle.bucket.proofs.TestLaws.{and_fails, and_holds}
+use Rattle.filter.specs.Table.{hashes_of}
+use Rattle.ledger.specs.Memory.{is_served}
+use Rattle.session.proofs.ChunkLaws.{hashes-cons, hashes_none}
 use Rattle.session.proofs.PlaceLaws.{table-short}
-use Rattle.session.proofs.AskLaws.{item_read, items_inside, items_past, serving-start, serving-nowhere, serving_unoffered, serving-again, serving-next, serving-end, unserved_room}
-use Rattle.std.proofs.Common.{ap}
-use mathlib.Core.Bool.{not}
+use Rattle.session.proofs.AskLaws.{serving-start, serving-nowhere, serving_unfit, serving-next, serving-end, unserved_room}
 use Rattle.session.proofs.asking.serve_all.Goals as goal
-use Rattle.session.proofs.asking.serve_all.Goals.{In-loop-i}
+use Rattle.session.proofs.asking.serve_all.Goals.{In-Some, Else-is_served, then-not-is_offered-via-then-not-is_offered, then-not-is_offered-via-else-not-is_offered+then-is_served}
 
--- the items, and that item i is one of them
-abbrev items : In-loop-i → List ℕ
-items c = let a = c.args in
-    unpacked 512 a.n (part 4 (64 * a.n) a.message.now)
+-- the hash is the first of those that were left
+left : (c : In-Some) → hashes_of c.loop-hash.hash-iterator.rest.now ≡ joined 8 c.in-Some.hash.now ∷ hashes_of c.next.new.self.rest.now
+left c = let step = c.in-Some.ensures.steps in
+    hashes-cons c.in-Some.hash.now c.next.new.self.rest.now step.1.0 (step.1.1 ∙ c.loop-hash.invariant.size)
 
-inside : (c : In-loop-i) → c.loop-i.i < length (items c)
-inside c = let a = c.args in
-    items_inside 512 a.n c.loop-i.i (part 4 (64 * a.n) a.message.now) c.loop-i-test.true
+unserved : (c : Else-is_served) → is_served (get_or c.loop-hash.marks c.in-Some-place_of_hash.p 0) ≡ false
+unserved c = sym c.is_served.ensures ∙ c.if-is_served.false
 
-item : (c : In-loop-i)
-    → joined 8 (part (4 + 64 * c.loop-i.i) 64 c.args.message.now) ≡ get_or (items c) c.loop-i.i 0
-item c = item_read 64 c.args.n 4 c.loop-i.i c.args.message.now c.requires.1 c.loop-i-test.true refl
+pub loop-hash-init : goal.loop-hash-init
+loop-hash-init c = let a = c.args in
+    rw (c.into_iter-hash-iterator.ensures.into_iter_gives, c.chunks_exact-hash-items.ensures.rest, c.chunks_exact-hash-items.ensures.size) record {
+      size = refl;
+      walk = serving-start a.table.now a.known.now a.marks.now (hashes_of a.hashes.now);
+    }
 
-pub loop-i-init : goal.loop-i-init
-loop-i-init c = let a = c.args in
-    serving-start a.table.now a.known.now a.marks.now (unpacked 512 a.n (part 4 (64 * a.n) a.message.now))
+pub place_of_hash-requires : goal.place_of_hash-requires
+place_of_hash-requires c = (
+  table-short c.args.table.now c.requires.table-good,
+  table-short c.args.known.now c.requires.known-good,
+  c.in-Some.ensures.steps.1.1 ∙ c.loop-hash.invariant.size,
+)
 
-pub place_of_hash-p-requires : goal.place_of_hash-p-requires
-place_of_hash-p-requires c = (table-short c.args.table.now c.requires.0.table-good, table-short c.args.known.now c.requires.0.known-good, omega (arith, c.requires.1, c.loop-i-test.true))
-
-pub shape_of-marks-then-p-ge-NOWHERE : goal.shape_of-marks-then-p-ge-NOWHERE
-shape_of-marks-then-p-ge-NOWHERE c = c.loop-i.invariant.same
-
-pub returns-then-p-ge-NOWHERE : goal.returns-then-p-ge-NOWHERE
-returns-then-p-ge-NOWHERE c = serving-nowhere c.loop-i.invariant (inside (goal.at.returns-then-p-ge-NOWHERE c).In-loop-i) (item (goal.at.returns-then-p-ge-NOWHERE c).In-loop-i) c.place_of_hash-p.ensures c.if-p-ge-NOWHERE.true
-
-pub bounds-marks-p : goal.bounds-marks-p
-bounds-marks-p c = omega (arith, c.if-p-ge-NOWHERE.false, c.requires.0.marks-room, c.loop-i.invariant.same)
-
-pub shape_of-marks-then-not-is_offered : goal.shape_of-marks-then-not-is_offered
-shape_of-marks-then-not-is_offered c = c.loop-i.invariant.same
+pub returns-in_default : goal.returns-in_default
+returns-in_default c = serving-nowhere c.loop-hash.invariant.walk (left (goal.at.returns-in_default c).In-Some) (sym c.in_default.ensures) refl
 
 pub returns-then-not-is_offered : goal.returns-then-not-is_offered
-returns-then-not-is_offered c = serving_unoffered c.loop-i.invariant (inside (goal.at.returns-then-not-is_offered c).In-loop-i) (item (goal.at.returns-then-not-is_offered c).In-loop-i) c.place_of_hash-p.ensures (test_refused c.is_offered.ensures (ap not c.if-not-is_offered.true))
-
-pub shape_of-marks-then-is_served : goal.shape_of-marks-then-is_served
-shape_of-marks-then-is_served c = c.loop-i.invariant.same
-
-pub returns-then-is_served : goal.returns-then-is_served
-returns-then-is_served c = serving-again c.loop-i.invariant (inside (goal.at.returns-then-is_served c).In-loop-i) (item (goal.at.returns-then-is_served c).In-loop-i) c.place_of_hash-p.ensures (sym c.is_served.ensures ∙ c.if-is_served.true)
+returns-then-not-is_offered c =
+    serving_unfit c.loop-hash.invariant.walk (left (goal.at.returns-then-not-is_offered c).In-Some) c.in-Some-place_of_hash.ensures.0
+    (elim c.then-not-is_offered.branch [
+      | then-not-is_offered-via-then-not-is_offered w ↦
+          ap (λ (t : Bool). t && not (is_served (get_or c.loop-hash.marks c.in-Some-place_of_hash.p 0))) (sym c.is_offered.ensures ∙ w.if-not-is_offered.true)
+      | then-not-is_offered-via-else-not-is_offered+then-is_served w ↦ and_fails _ (ap not (sym w.is_served.ensures ∙ w.if-is_served.true))
+    ])
 
 pub overflow_add-marks : goal.overflow_add-marks
-overflow_add-marks c = let m = get_or c.loop-i.marks c.place_of_hash-p.result 0 in
-    omega (arith, unserved_room m (c.slice_known-in-loop-i-1.given c.place_of_hash-p.result).fits (sym c.is_served.ensures ∙ c.if-is_served.false))
+overflow_add-marks c = let p = c.in-Some-place_of_hash.p in
+    omega (arith, unserved_room (get_or c.loop-hash.marks p 0) (omega arith) (unserved (goal.at.overflow_add-marks c).Else-is_served))
 
-pub bounds-marks-p-in-loop-i : goal.bounds-marks-p-in-loop-i
-bounds-marks-p-in-loop-i c = omega (arith, c.if-p-ge-NOWHERE.false, c.requires.0.marks-room, c.loop-i.invariant.same)
-
-pub loop-i-preserved : goal.loop-i-preserved
-loop-i-preserved c = serving-next c.loop-i.invariant (inside (goal.at.loop-i-preserved c).In-loop-i) (item (goal.at.loop-i-preserved c).In-loop-i) c.place_of_hash-p.ensures
-    c.if-p-ge-NOWHERE.false (test_granted c.is_offered.ensures (ap not c.if-not-is_offered.false)) (sym c.is_served.ensures ∙ c.if-is_served.false)
-
-pub shape_of-marks : goal.shape_of-marks
-shape_of-marks c = c.loop-i.invariant.same
+pub loop-hash-preserved : goal.loop-hash-preserved
+loop-hash-preserved c = let place = c.in-Some-place_of_hash.ensures in
+    record {
+      size = c.in-Some.ensures.steps.0 ∙ c.loop-hash.invariant.size;
+      walk =
+          serving-next c.loop-hash.invariant.walk (left (goal.at.loop-hash-preserved c).In-Some) place.0 place.1
+          (and_holds (sym c.is_offered.ensures ∙ c.if-not-is_offered.false) (ap not (unserved (goal.at.loop-hash-preserved c).Else-is_served)));
+    }
 
 pub returns : goal.returns
-returns c = let a = c.args in
-    serving-end c.loop-i.invariant (items_past 512 a.n c.loop-i.i (part 4 (64 * a.n) a.message.now) c.loop-i-test.false)
+returns c = serving-end c.loop-hash.invariant.walk (hashes_none c.loop-hash.hash-iterator.rest.now (omega (arith, c.in-None.ensures.steps.1.0, c.loop-hash.invariant.size)))

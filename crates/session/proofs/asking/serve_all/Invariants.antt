@@ -1,13 +1,11 @@
--- `session::asking::serve_all` meets its contract. The invariant: the walk has come to item i. The measure is how many items are left.
--- Assumes nothing.
-use Prim.Native.Nat.{◌*◌, ◌-◌}
-use Rattle.bucket.specs.Digits.{unpacked}
-use Rattle.bucket.specs.Lists.{part}
+-- `asking::serve_all` meets its contract. The invariant: the walk has the hashes left that the iterator has. Assumes nothing.
+use mathlib.Core.Path.{◌≡◌}
+use Rattle.filter.specs.Table.{hashes_of}
 use Rattle.session.proofs.AskLaws.{Serving}
 use Rattle.session.proofs.asking.serve_all.Given as goal
 
-abbrev pub invariant-loop-i : goal.invariant-loop-i
-invariant-loop-i l = Serving l.table l.known l.initial.marks (unpacked 512 l.n (part 4 (64 * l.n) l.message)) l.marks l.i
-
-abbrev pub decreases-loop-i : goal.decreases-loop-i
-decreases-loop-i l = l.n - l.i
+abbrev pub invariant-loop-hash : goal.invariant-loop-hash
+invariant-loop-hash l = record {
+  size : l.hash-iterator.size ≡ 64;
+  walk : Serving l.table l.known l.initial.marks (hashes_of l.hashes) l.marks (hashes_of l.hash-iterator.rest.now)
+}

@@ -1,27 +1,34 @@
+use mathlib.Core.Path.{refl, ap, ◌∙◌}
+use mathlib.Core.List.{foldr}
 use native.Mathlib.Omega.{arith}
-use Rattle.filter.proofs.TableLaws.{hashes-length}
-use Rattle.session.proofs.XorSumLaws.{added_start, added_next, added_end}
+use lib.Bits.{bit_xor}
+use Rattle.bucket.specs.Digits.{joined}
+use Rattle.filter.specs.Table.{hashes_of}
+use Rattle.session.proofs.ChunkLaws.{hashes-cons, hashes_none}
+use Rattle.session.proofs.XorSumLaws.{left_start, left_next, left_end}
 use Rattle.session.proofs.checking.xor_all.Goals as goal
 
-pub loop-i-init : goal.loop-i-init
-loop-i-init c = (c.count-n.ensures, added_start c.args.s.now c.args.acc.now)
-
-pub overflow_mul-i : goal.overflow_mul-i
-overflow_mul-i c = omega (arith, hashes-length c.args.s.now)
+pub loop-hash-init : goal.loop-hash-init
+loop-hash-init c =
+    rw (c.into_iter-hash-iterator.ensures.into_iter_gives, c.chunks_exact-hash-items.ensures.rest, c.chunks_exact-hash-items.ensures.size) record {
+      size = refl;
+      sum = left_start c.args.acc.now (foldr bit_xor 0 (hashes_of c.args.s.now));
+    }
 
 pub xor_into-requires : goal.xor_into-requires
-xor_into-requires c = omega (arith, hashes-length c.args.s.now)
+xor_into-requires c = c.in-Some.ensures.steps.1.1 ∙ c.loop-hash.invariant.size
 
-pub overflow_add-i : goal.overflow_add-i
-overflow_add-i c = omega arith
-
-pub loop-i-smaller : goal.loop-i-smaller
-loop-i-smaller c = omega arith
-
-pub loop-i-preserved : goal.loop-i-preserved
-loop-i-preserved c = let w = c.loop-i in
-    (w.invariant.0, added_next c.args.s.now w.i w.invariant.1 (omega arith) c.xor_into.ensures)
+pub loop-hash-preserved : goal.loop-hash-preserved
+loop-hash-preserved c = let at = c.loop-hash.invariant in
+    let step = c.in-Some.ensures.steps in
+    let rest = c.next.new.self.rest.now in
+    record {
+      size = step.0 ∙ at.size;
+      sum =
+          left_next at.sum (joined 8 c.in-Some.hash.now) (foldr bit_xor 0 (hashes_of rest))
+          (ap (foldr bit_xor 0) (hashes-cons c.in-Some.hash.now rest step.1.0 (step.1.1 ∙ at.size))) c.xor_into.ensures;
+    }
 
 pub returns : goal.returns
-returns c = let w = c.loop-i in
-    added_end c.args.s.now w.i w.invariant.1 (omega arith)
+returns c = let at = c.loop-hash.invariant in
+    left_end at.sum (ap (foldr bit_xor 0) (hashes_none c.loop-hash.hash-iterator.rest.now (omega (arith, c.in-None.ensures.steps.1.0, at.size))))

@@ -1,14 +1,13 @@
--- `checking::xor_all` meets its contract: what was added so far is the sum of the hashes before i. The measure is what is left of them.
--- Assumes nothing.
+-- `checking::xor_all` meets its contract: what is left to be added is the sum of the hashes that the iterator has left. Assumes nothing.
 use mathlib.Core.Path.{◌≡◌}
-use Prim.Native.Nat.{◌-◌}
-use lib.ListN.{length}
+use mathlib.Core.List.{foldr}
+use lib.Bits.{bit_xor}
 use Rattle.filter.specs.Table.{hashes_of}
-use Rattle.session.proofs.XorSumLaws.{Added}
+use Rattle.session.proofs.XorSumLaws.{Left}
 use Rattle.session.proofs.checking.xor_all.Given as goal
 
-abbrev pub invariant-loop-i : goal.invariant-loop-i
-invariant-loop-i l = (l.n ≡ length (hashes_of l.s)) × Added l.s l.initial.acc l.acc l.i
-
-abbrev pub decreases-loop-i : goal.decreases-loop-i
-decreases-loop-i l = l.n - l.i
+abbrev pub invariant-loop-hash : goal.invariant-loop-hash
+invariant-loop-hash l = record {
+  size : l.hash-iterator.size ≡ 64;
+  sum : Left l.initial.acc (foldr bit_xor 0 (hashes_of l.s)) l.acc (foldr bit_xor 0 (hashes_of l.hash-iterator.rest.now))
+}

@@ -1,45 +1,56 @@
-use mathlib.Core.Path.{sym, ◌∙◌}
+use mathlib.Core.Path.{◌≡◌, sym, ap, ap₂, ◌∙◌}
+use mathlib.Core.Logic.{inl, inr}
+use mathlib.Core.List.{List, ◌∷◌}
+use Prim.Native.Nat.{ℕ}
 use native.Mathlib.Omega.{arith}
-use Rattle.filter.proofs.TableLaws.{hashes-length}
-use Rattle.session.proofs.XorSumLaws.{met_start, met_next, met_other, met-end}
+use Rattle.std.proofs.lemmas.List.{nil_from_length}
+use Rattle.bucket.specs.Digits.{joined}
+use Rattle.filter.specs.Table.{hashes_of}
+use Rattle.session.proofs.ChunkLaws.{hashes-cons, hashes_none}
+use Rattle.session.proofs.XorSumLaws.{met_sum, left_next, left_none, left_end, met_first, met_passed, met_none}
 use Rattle.session.proofs.checking.xor_met.Goals as goal
-use Rattle.session.proofs.checking.xor_met.Goals.{then-is_met, else-is_met}
+use Rattle.session.proofs.checking.xor_met.Goals.{After-is_met}
 
-pub loop-i-init : goal.loop-i-init
-loop-i-init c = let a = c.args in
-    (c.count-n.ensures, omega arith, met_start a.known.now a.marks.now a.acc.now)
-
-pub overflow_add-i : goal.overflow_add-i
-overflow_add-i c = omega arith
-
-pub bounds-marks-i : goal.bounds-marks-i
-bounds-marks-i c = omega arith
-
-pub overflow_mul-i : goal.overflow_mul-i
-overflow_mul-i c = omega (arith, hashes-length c.args.known.now)
+-- the hash and its mark are the first of those that were left
+first : (c : After-is_met) → met_sum (hashes_of c.loop-hash.hash-iterator.a.rest.now) c.loop-hash.hash-iterator.b.rest.now
+    ≡ met_sum (joined 8 c.in-Some.hash.now ∷ hashes_of c.next.new.self.a.rest.now) (c.in-Some.mark.now ∷ c.next.new.self.b.rest.now)
+first c = let (hashes, marks) = c.in-Some.ensures.steps in
+    ap₂ met_sum (hashes-cons c.in-Some.hash.now c.next.new.self.a.rest.now hashes.1.0 (hashes.1.1 ∙ c.loop-hash.invariant.size)) marks
 
 pub xor_into-requires : goal.xor_into-requires
-xor_into-requires c = omega (arith, hashes-length c.args.known.now)
+xor_into-requires c = c.in-Some.ensures.steps.0.1.1 ∙ c.loop-hash.invariant.size
 
-pub overflow_add-i-in-loop-i : goal.overflow_add-i-in-loop-i
-overflow_add-i-in-loop-i c = omega arith
+pub loop-hash-preserved-then-is_met : goal.loop-hash-preserved-then-is_met
+loop-hash-preserved-then-is_met c = let at = c.loop-hash.invariant in
+    let h = joined 8 c.in-Some.hash.now in
+    let hs = hashes_of c.next.new.self.a.rest.now in
+    let ms = c.next.new.self.b.rest.now in
+    record {
+      size = c.in-Some.ensures.steps.0.0 ∙ at.size;
+      sum =
+          left_next at.sum h (met_sum hs ms)
+          (first (goal.at.loop-hash-preserved-then-is_met c).After-is_met ∙ met_first h c.in-Some.mark.now hs ms (sym c.is_met.ensures ∙ c.if-is_met.true))
+          c.xor_into.ensures;
+    }
 
-pub loop-i-smaller : goal.loop-i-smaller
-loop-i-smaller c = omega arith
-
-pub loop-i-preserved : goal.loop-i-preserved
-loop-i-preserved c = let a = c.args in
-    let w = c.loop-i in
-    let met = c.is_met.ensures in (
-      w.invariant.0,
-      omega arith,
-      elim c.if-is_met.branch [
-        | then-is_met u ↦ rw u.acc-is (met_next a.known.now a.marks.now (omega arith) w.i w.invariant.2 (omega arith) (sym met ∙ u.if-is_met.true) u.xor_into.ensures)
-        | else-is_met u ↦ rw u.acc-is (met_other a.known.now a.marks.now (omega arith) w.i w.invariant.2 (omega arith) (sym met ∙ u.if-is_met.false))
-      ],
-    )
+pub loop-hash-preserved : goal.loop-hash-preserved
+loop-hash-preserved c = let at = c.loop-hash.invariant in
+    let h = joined 8 c.in-Some.hash.now in
+    let hs = hashes_of c.next.new.self.a.rest.now in
+    let ms = c.next.new.self.b.rest.now in
+    record {
+      size = c.in-Some.ensures.steps.0.0 ∙ at.size;
+      sum =
+          left_none at.sum (first (goal.at.loop-hash-preserved c).After-is_met ∙ met_passed h c.in-Some.mark.now hs ms (sym c.is_met.ensures ∙ c.if-is_met.false));
+    }
 
 pub returns : goal.returns
-returns c = let a = c.args in
-    let w = c.loop-i in
-    met-end a.known.now a.marks.now (omega arith) w.i w.invariant.2 (omega arith)
+returns c = let at = c.loop-hash.invariant in
+    let hs = c.loop-hash.hash-iterator.a.rest.now in
+    let ms = c.loop-hash.hash-iterator.b.rest.now in
+    left_end at.sum
+    (met_none (hashes_of hs) ms
+    (elim c.in-None.ensures.steps [
+      | inl q ↦ inl (hashes_none hs (omega (arith, q.1.1.0, at.size)))
+      | inr q ↦ inr (nil_from_length ms q.1.0)
+    ]))

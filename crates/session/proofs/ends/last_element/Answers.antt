@@ -1,19 +1,24 @@
 -- `session::ends::last_element` meets its contract: each return leaves what the step on an ELEMENT does. Assumes nothing.
 use Rattle.std.proofs.Common.{cond}
-use mathlib.Core.Path.{◌≡◌, sym, ◌∙◌}
+use Rattle.std.proofs.Common.{rules}
+use Rattle.std.specs.Cmp.Lexicographic.{pointwise}
+use mathlib.Core.Path.{◌≡◌, sym, ap, ◌∙◌}
+use mathlib.Core.Bool.{Bool, false, not, ◌&&◌}
 use Prim.Native.Nat.{◌*◌}
-use native.Mathlib.Omega.{arith}
 use lib.Bits.{bit_xor}
 use lib.ListN.{take}
-use lib.Seq.{length-take-le}
+use lib.Dec.{eqb}
+use Rattle.bucket.specs.Lists.{part}
+use Rattle.bucket.proofs.OverLaws.{part_length}
+use Rattle.message.proofs.WholeLaws.{part-below}
 use Rattle.bucket.specs.Digits.{joined}
-use Rattle.bucket.proofs.TestLaws.{cond-made, cond-kept}
+use Rattle.bucket.proofs.TestLaws.{and_fails, and_holds, cond-made, cond-kept}
 use Rattle.ledger.specs.Calls.{given}
 use Rattle.session.specs.Ready.{Sum}
-use Rattle.session.proofs.CheckBytes.{check_in, check-made}
+use Rattle.session.proofs.CheckBytes.{check_in, check-made, sum_same}
 use Rattle.session.proofs.ElementLaws.{last_differs, last_sends}
 use Rattle.session.proofs.ends.last_element.Goals as goal
-use Rattle.session.proofs.ends.last_element.Goals.{then-last, else-last}
+use Rattle.session.proofs.ends.last_element.Goals.{then-last-2, else-last-2, else-last-via-then-last+else-ne, else-last-via-else-last}
 use Rattle.session.proofs.ends.last_element.Goals.{After-xor_into}
 
 -- the checksum with the element
@@ -23,35 +28,31 @@ sum c = let a = c.args in
     c.xor_into.ensures (check_in a.table.now a.numbers.demanded a.records.now a.marks.now)
     (check-made a.table.now a.numbers.demanded a.records.now a.marks.now c.checksum-check.result c.checksum-check.ensures)
 
-pub slice_bounds-checksum-end : goal.slice_bounds-checksum-end
-slice_bounds-checksum-end c = sym (length-take-le (64 * c.args.numbers.demanded) c.args.records.now (omega arith))
+-- and whether it is the one that came
+compared : (c : After-xor_into) → pointwise eqb (part 262144 64 c.args.records.now) c.xor_into.new.acc
+    ≡ eqb (joined 8 (part 262144 64 c.args.records.now)) (joined 8 (take 64 c.xor_into.new.acc))
+compared c = let a = c.args in
+    sum_same (part 262144 64 a.records.now) _ c.xor_into.new.acc (part_length 262144 a.records.now 64 c.requires.1) (part-below 262144 64 a.records.now (λ i. search rules)) (sum c)
 
-pub slice_bounds-same_hash-end : goal.slice_bounds-same_hash-end
-slice_bounds-same_hash-end c = sym (sum (goal.at.slice_bounds-same_hash-end c).After-xor_into).size
-
-pub same_hash-requires : goal.same_hash-requires
-same_hash-requires c = (c.requires.1, omega (arith, (sum (goal.at.same_hash-requires c).After-xor_into).size))
-
-pub returns-then-last-same_hash : goal.returns-then-last-same_hash
-returns-then-last-same_hash c = λ I message ours theirs bytes cols s timely u at ends says.
+pub returns-then-ne : goal.returns-then-ne
+returns-then-ne c = λ I message ours theirs bytes cols s timely u at ends says.
     let a = c.args in
+    let here = (goal.at.returns-then-ne c).After-xor_into in
     let G = given a.numbers a.table.now a.records.now a.marks.now I cols ours theirs a.hash.now message a.out.now in
-    last_differs G s timely bytes u ends c.xor_into.new.acc (sum (goal.at.returns-then-last-same_hash c).After-xor_into) c.same_hash.ensures
-    c.if-last-same_hash.true c.aborted.ensures
-
-pub slice_bounds-send_done-end : goal.slice_bounds-send_done-end
-slice_bounds-send_done-end c = sym (sum (goal.at.slice_bounds-send_done-end c).After-xor_into).size
-
-pub send_done-sent-requires : goal.send_done-sent-requires
-send_done-sent-requires c = (omega (arith, (sum (goal.at.send_done-sent-requires c).After-xor_into).size), omega (arith, c.requires.4))
+    last_differs G s timely bytes u ends c.xor_into.new.acc (sum here) (compared here) (and_holds c.if-last.true (sym c.ne.ensures ∙ c.if-ne.true)) c.aborted.ensures
 
 pub returns : goal.returns
 returns c = λ I message ours theirs bytes cols s timely u at ends says.
     let a = c.args in
+    let here = (goal.at.returns c).After-xor_into in
     let G = given a.numbers a.table.now a.records.now a.marks.now I cols ours theirs a.hash.now message a.out.now in
-    let next : c.if-last.next ≡ cond c.args.last 6 a.numbers.state = elim c.if-last.branch [
-      | then-last w ↦ w.next-is ∙ cond-made 6 a.numbers.state w.if-last.true
-      | else-last w ↦ w.next-is ∙ cond-kept 6 a.numbers.state w.if-last.false
+    let same = pointwise eqb (part 262144 64 a.records.now) c.xor_into.new.acc in
+    let next : c.if-last-2.next ≡ cond a.last 6 a.numbers.state = elim c.if-last-2.branch [
+      | then-last-2 w ↦ w.next-is ∙ cond-made 6 a.numbers.state w.if-last-2.true
+      | else-last-2 w ↦ w.next-is ∙ cond-kept 6 a.numbers.state w.if-last-2.false
     ] in
-    last_sends G s timely bytes u ends c.xor_into.new.acc (sum (goal.at.returns c).After-xor_into) c.same_hash.ensures c.if-last-same_hash.false at says
-    c.send_done-sent.ensures next c.changed.ensures
+    let fine : a.last && not same ≡ false = elim c.else-last.branch [
+      | else-last-via-then-last+else-ne w ↦ and_fails a.last (sym w.ne.ensures ∙ w.if-ne.false)
+      | else-last-via-else-last w ↦ ap (λ (t : Bool). t && not same) w.if-last.false
+    ] in
+    last_sends G s timely bytes u ends c.xor_into.new.acc (sum here) (compared here) fine at says c.send_done-sent.ensures next c.changed.ensures

@@ -11,6 +11,8 @@ use Rattle.ledger.specs.declared.numbers.Numbers.{Numbers}
 use Rattle.session.proofs.LastTurns.{last_untimely, last_misplaced, last_whole, last_stops, opens_ready, last_opens, swaps_ready, last_swaps}
 use Rattle.std.proofs.Common.{ap}
 use mathlib.Core.Bool.{not}
+use lib.ListN.{length-take}
+use lib.Seq.{length-take-le}
 use Rattle.session.proofs.filters.on_last.Goals as goal
 
 pub returns-then-not-admits_slice : goal.returns-then-not-admits_slice
@@ -42,7 +44,23 @@ returns-then-f c = last_stops c.requires c.read_whole-f.ensures (test_granted c.
     c.if-f.true c.aborted-then-f.ensures
 
 pub open-requires : goal.open-requires
-open-requires c = opens_ready c.requires c.read_whole-f.ensures c.if-f.false c.if-f-2.true
+open-requires c = let (opens, _, _, ours, theirs, salt, inquired, out) = opens_ready c.requires c.read_whole-f.ensures c.if-f.false c.if-f-2.true in
+    let f = c.read_whole-f in
+    (opens, omega (arith, ours, length-take f.result.ours f.new.ours), omega (arith, theirs, length-take f.result.theirs f.new.theirs), salt, inquired, out)
+
+pub slice_bounds-open-end : goal.slice_bounds-open-end
+slice_bounds-open-end c = (opens_ready c.requires c.read_whole-f.ensures c.if-f.false c.if-f-2.true).1
+
+pub slice_bounds-open-end-then-f-2 : goal.slice_bounds-open-end-then-f-2
+slice_bounds-open-end-then-f-2 c = let f = c.read_whole-f in
+    sym (length-take-le f.result.ours f.new.ours (opens_ready c.requires f.ensures c.if-f.false c.if-f-2.true).1)
+
+pub slice_bounds-open-end-then-f-2-2 : goal.slice_bounds-open-end-then-f-2-2
+slice_bounds-open-end-then-f-2-2 c = (opens_ready c.requires c.read_whole-f.ensures c.if-f.false c.if-f-2.true).2
+
+pub slice_bounds-open-end-then-f-2-3 : goal.slice_bounds-open-end-then-f-2-3
+slice_bounds-open-end-then-f-2-3 c = let f = c.read_whole-f in
+    sym (length-take-le f.result.theirs f.new.theirs (opens_ready c.requires f.ensures c.if-f.false c.if-f-2.true).2)
 
 pub shape_of-marks-then-f-2 : goal.shape_of-marks-then-f-2
 shape_of-marks-then-f-2 c = c.open.auto.marks

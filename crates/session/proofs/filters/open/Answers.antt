@@ -1,11 +1,11 @@
 -- `filters::open` meets its contract: behind the messages of `tell` DONE goes exactly if theirs is empty. Assumes nothing.
-use mathlib.Core.Path.{sym, ap, ◌∙◌}
+use mathlib.Core.Path.{refl, sym, ap, ◌∙◌}
 use mathlib.Core.List.{[], ◌∷◌, foldr}
 use Prim.Native.Nat.{ℕ, ◌+◌}
 use native.Mathlib.Omega.{arith}
 use lib.Bits.{bit_xor}
-use lib.ListN.{length, take}
-use lib.Seq.{length-take-le}
+use borrow.Author.Tests.{eqb-true, eqb-false}
+use lib.ListN.{length}
 use Rattle.bucket.specs.Lists.{over, part}
 use Rattle.filter.specs.Table.{hashes_of}
 use Rattle.message.specs.Layout.{done}
@@ -24,24 +24,18 @@ pub send_done-end-requires : goal.send_done-end-requires
 send_done-end-requires c = let told = c.tell-sent in
     let a = c.args in (
       omega (arith, ap length c.checksum-check.ensures, whole_length 64 (check_of (hashes_of a.table.now) (hashes_of []) (part 4096 (length (hashes_of [])) told.new.marks) ∷ [])),
-      omega (arith, told.ensures.2.count, told-room a.salt a.table.now a.ours.now a.theirs.now a.a a.b c.requires.3 c.requires.4, told.auto.out, c.requires.7),
+      omega (arith, told.ensures.2.count, told-room a.salt a.table.now a.ours.now a.theirs.now c.requires.1 c.requires.2, told.auto.out, c.requires.5),
     )
 
-pub shape_of-marks-then-b-eq0 : goal.shape_of-marks-then-b-eq0
-shape_of-marks-then-b-eq0 c = c.tell-sent.auto.marks
-
-pub shape_of-inquired-then-b-eq0 : goal.shape_of-inquired-then-b-eq0
-shape_of-inquired-then-b-eq0 c = c.tell-sent.auto.inquired
-
-pub returns-then-b-eq0 : goal.returns-then-b-eq0
-returns-then-b-eq0 c = let told = c.tell-sent in
+pub returns-then-is_empty : goal.returns-then-is_empty
+returns-then-is_empty c = let told = c.tell-sent in
     let ended = c.send_done-end in
     let a = c.args in
     let check = table-check a.table.now (part 4096 (length (hashes_of [])) told.new.marks) c.checksum-check.result c.checksum-check.ensures in
-    opened-none a.numbers a.table.now a.size a.salt (take a.a a.ours.now) (take a.b a.theirs.now) a.marks.now a.inquired.now a.out.now
-    told.ensures.0 told.ensures.1 (omega (arith, c.if-b-eq0.true, length-take-le a.b a.theirs.now c.requires.2))
+    opened-none a.numbers a.table.now a.size a.salt a.ours.now a.theirs.now a.marks.now a.inquired.now a.out.now
+    told.ensures.0 told.ensures.1 (sym (eqb-true (length a.theirs.now) 0 (sym c.is_empty.ensures ∙ c.if-is_empty.true)))
     (sent_then (done (foldr bit_xor 0 (hashes_of a.table.now)) ∷ []) told.ensures.2
-    (omega (arith, told-room a.salt a.table.now a.ours.now a.theirs.now a.a a.b c.requires.3 c.requires.4, done-length (foldr bit_xor 0 (hashes_of a.table.now)), c.requires.7))
+    (omega (arith, told-room a.salt a.table.now a.ours.now a.theirs.now c.requires.1 c.requires.2, done-length (foldr bit_xor 0 (hashes_of a.table.now)), c.requires.5))
     (ended.ensures.0 ∙ ap (λ (x : ℕ). told.result + length (layouts (done x ∷ []))) check)
     (ended.ensures.1 ∙ ap (λ (x : ℕ). over told.result (layouts (done x ∷ [])) told.new.out) check))
     (c.answered.ensures ∙ ap (answered 0 ended.result 0) c.opened.ensures)
@@ -49,6 +43,6 @@ returns-then-b-eq0 c = let told = c.tell-sent in
 pub returns : goal.returns
 returns c = let told = c.tell-sent in
     let a = c.args in
-    opened_some a.numbers a.table.now a.size a.salt (take a.a a.ours.now) (take a.b a.theirs.now) a.marks.now a.inquired.now a.out.now
-    told.ensures.0 told.ensures.1 (sym (length-take-le a.b a.theirs.now c.requires.2)) c.if-b-eq0.false told.ensures.2
+    opened_some a.numbers a.table.now a.size a.salt a.ours.now a.theirs.now a.marks.now a.inquired.now a.out.now
+    told.ensures.0 told.ensures.1 refl (eqb-false (length a.theirs.now) 0 (sym c.is_empty.ensures ∙ c.if-is_empty.false)) told.ensures.2
     (c.answered-2.ensures ∙ ap (answered 0 told.result 0) c.opened-2.ensures)

@@ -1,31 +1,45 @@
--- `session::lists::on_demand` meets its contract: each return is one way of the demand's turn. Assumes nothing.
-use mathlib.Core.Path.{refl, sym, ap, ◌∙◌}
-use Prim.Native.Nat.{ℕ, ◌*◌}
+-- `lists::on_demand` meets its contract: each return is one way of the demand's turn. Assumes nothing.
+use mathlib.Core.Path.{◌≡◌, refl, sym, ap, ◌∙◌}
+use mathlib.Core.List.{List}
+use Prim.Native.Nat.{ℕ, ◌-◌, ◌+◌, ◌*◌}
 use native.Mathlib.Omega.{arith}
+use Rattle.std.proofs.Common.{rules}
+use lib.ListN.{drop, length, take}
 use lib.Seq.{length-take-le}
-use Rattle.bucket.specs.Lists.{part}
-use Rattle.bucket.proofs.TestLaws.{test_refused, test_granted}
+use Rattle.bucket.specs.Digits.{unpacked}
+use Rattle.bucket.specs.Lists.{over, part}
 use Rattle.bucket.proofs.PackedLaws.{unpacked-length}
+use Rattle.filter.specs.Table.{first_eight, hashes_of}
 use Rattle.form.specs.Answers.{changed}
+use Rattle.session.specs.Moves.{serve_all}
+use Rattle.session.specs.Ready.{Served}
+use Rattle.session.proofs.ChunkLaws.{hashes_lent, lent, lent-length}
+use Rattle.session.proofs.CopyLaws.{front_over}
 use Rattle.session.proofs.DemandSteps.{demand_bad, demand-taken, demand-bytes}
-use mathlib.Core.Bool.{not}
 use Rattle.session.proofs.lists.on_demand.Goals as goal
+use Rattle.session.proofs.lists.on_demand.Goals.{After-serve_all}
 
-pub slice_bounds-serve_all-end : goal.slice_bounds-serve_all-end
-slice_bounds-serve_all-end c = sym (length-take-le (64 * c.args.numbers.demanded) c.args.records.now c.requires.1)
+walked : (c : After-serve_all) → let a = c.args in
+    Served (serve_all first_eight (hashes_of a.table.now) (hashes_of (take (64 * a.numbers.demanded) a.records.now)) (unpacked 512 a.n (part 4 (64 * a.n) a.message.now)) c.copy_from_slice.new.self)
+    c.serve_all.result c.serve_all.new.marks
+walked c = let a = c.args in
+    rw (hashes_lent a.n a.message.now c.requires.3) at c.serve_all.ensures
 
-pub serve_all-requires : goal.serve_all-requires
-serve_all-requires c = (record { table-good = c.requires.0.table-good; known-good = c.requires.0.known-good; marks-room = omega arith }, c.requires.3)
+pub copy_from_slice-requires : goal.copy_from_slice-requires
+copy_from_slice-requires c = sym (length-take-le 8192 c.args.marks.now c.requires.0.marks-room)
 
 pub returns-then-not-serve_all : goal.returns-then-not-serve_all
-returns-then-not-serve_all c = demand_bad c.args.numbers _ _ _ _ _ c.requires.0.marks-room c.copy.ensures c.serve_all.ensures
-    (test_refused refl (ap not c.if-not-serve_all.true)) c.aborted.ensures
+returns-then-not-serve_all c =
+    demand_bad c.args.numbers _ _ _ _ _ c.copy_from_slice.ensures.after (walked (goal.at.returns-then-not-serve_all c).After-serve_all) c.if-not-serve_all.true c.aborted.ensures
 
 pub returns : goal.returns
 returns c = let a = c.args in
     let N = a.numbers in
-    demand-taken N _ _ _ _ _ c.requires.0.marks-room c.copy.ensures c.serve_all.ensures (test_granted refl (ap not c.if-not-serve_all.false))
-    (omega (arith, c.serve_all.auto.marks, c.copy.auto.out))
+    let room = c.requires.3 in
+    demand-taken N _ _ _ _ _ c.copy_from_slice.ensures.after (walked (goal.at.returns c).After-serve_all) c.if-not-serve_all.false
     (c.changed.ensures ∙ ap (λ (n : ℕ). changed N N.state N.done N.demanded 0 n) (sym (unpacked-length 512 a.n (part 4 (64 * a.n) a.message.now))))
-    c.copy-2.ensures
-    (demand-bytes a.n a.message.now a.out.now (λ i. (c.shared_slice_known-3-1.given i).fits) c.requires.3 c.copy-3.ensures)
+    (front_over 8192 c.copy_from_slice-2.new.self a.marks.now (omega (arith, ap length c.copy_from_slice-2.ensures.after, c.serve_all.auto.marks))
+    ∙ ap (λ (l : List ℕ). over 0 l a.marks.now) c.copy_from_slice-2.ensures.after)
+    (demand-bytes a.n a.message.now a.out.now (λ i. search rules) room
+    (front_over (64 * a.n) c.copy_from_slice-3.new.self a.out.now (ap length c.copy_from_slice-3.ensures.after ∙ lent-length 4 (64 * a.n) a.message.now room)
+    ∙ ap (λ (l : List ℕ). over 0 l a.out.now) (c.copy_from_slice-3.ensures.after ∙ lent 4 (64 * a.n) a.message.now)))

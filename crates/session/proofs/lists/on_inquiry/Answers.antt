@@ -1,66 +1,73 @@
 -- `lists::on_inquiry` meets its contract: each answer is the turn's at the test that failed, and behind them the walk's marks and hashes are
 -- put where they belong. Assumes nothing.
-use mathlib.Core.Path.{◌≡◌, refl, sym}
-use mathlib.Core.Bool.{false, not}
-use Prim.Native.Nat.{◌*◌, ◌≤◌}
+use mathlib.Core.Path.{◌≡◌, sym, ap, ◌∙◌}
+use mathlib.Core.List.{List}
+use Prim.Native.Nat.{ℕ, ◌+◌, ◌-◌, ◌*◌, ◌≤◌}
 use native.Mathlib.Omega.{arith}
 use lib.ListN.{length, take}
 use lib.Seq.{length-take-le}
 use Rattle.bucket.specs.Digits.{unpacked}
-use Rattle.bucket.specs.Lists.{part}
-use Rattle.bucket.proofs.TestLaws.{test_refused, test_granted}
-use Rattle.session.proofs.InquirySteps.{Inquired, inquired, inquiry-salted, inquiry_bad, inquiry-taken}
+use Rattle.bucket.specs.Lists.{over, part}
+use Rattle.session.proofs.ChunkLaws.{ids_lent, lent-length}
+use Rattle.session.proofs.CopyLaws.{front_over}
+use Rattle.session.proofs.InquirySteps.{Inquired, inquired, not-inquired, inquiry-salted, inquiry_bad, inquiry-taken}
 use Rattle.session.proofs.lists.on_inquiry.Goals as goal
-use Rattle.session.proofs.lists.on_inquiry.Goals.{After-ask_all-g}
+use Rattle.session.proofs.lists.on_inquiry.Goals.{In-Some}
 
-went : (c : After-ask_all-g) → let a = c.args in
-    Inquired a.table.now (take (64 * a.numbers.demanded) a.records.now) (unpacked 64 a.n (part 8 (8 * a.n) a.message.now)) a.marks.now
-    c.ask_all-g.result.fine c.ask_all-g.result.count c.ask_all-g.new.marks c.ask_all-g.new.hashes
+-- the IDs of the message
+abbrev ids : (n : ℕ) (message : List ℕ) → List ℕ
+ids n message = unpacked 64 n (part 8 (8 * n) message)
+
+went : (c : In-Some) → let a = c.args in
+    Inquired a.table.now (take (64 * a.numbers.demanded) a.records.now) (ids a.n a.message.now) a.marks.now c.in-Some.m c.ask_all.new.marks c.ask_all.new.hashes
 went c = let a = c.args in
-    inquired a.table.now (take (64 * a.numbers.demanded) a.records.now) (unpacked 64 a.n (part 8 (8 * a.n) a.message.now)) a.marks.now _
-    c.requires.0.marks-room refl refl c.copy.ensures c.ask_all-g.ensures
+    inquired a.table.now (take (64 * a.numbers.demanded) a.records.now) (ids a.n a.message.now) a.marks.now
+    c.copy_from_slice.ensures.after c.requires.0.marks-room (omega arith) (rw (ids_lent a.n a.message.now c.requires.3) at c.in-Some.ensures)
 
 -- the hashes gathered lie in their room
-within : (c : After-ask_all-g) → not c.ask_all-g.result.fine ≡ false → 64 * c.ask_all-g.result.count ≤ length c.ask_all-g.new.hashes
-within c e = omega (arith, (went c).few (test_granted refl e), c.ask_all-g.auto.hashes)
-
-cut : (c : After-ask_all-g) → not c.ask_all-g.result.fine ≡ false
-    → length (take (64 * c.ask_all-g.result.count) c.ask_all-g.new.hashes) ≡ 64 * c.ask_all-g.result.count
-cut c e = length-take-le (64 * c.ask_all-g.result.count) c.ask_all-g.new.hashes (within c e)
+within : (c : In-Some) → 64 * c.in-Some.m ≤ length c.ask_all.new.hashes
+within c = omega (arith, (went c).few, c.ask_all.auto.hashes)
 
 pub returns-then-salt-numbers : goal.returns-then-salt-numbers
 returns-then-salt-numbers c = let a = c.args in
-    inquiry-salted a.numbers a.table.now (take (64 * a.numbers.demanded) a.records.now) a.salt (unpacked 64 a.n (part 8 (8 * a.n) a.message.now)) a.marks.now a.out.now
+    inquiry-salted a.numbers a.table.now (take (64 * a.numbers.demanded) a.records.now) a.salt (ids a.n a.message.now) a.marks.now a.out.now
     c.if-salt-numbers.true c.aborted.ensures
 
-pub slice_bounds-ask_all-end : goal.slice_bounds-ask_all-end
-slice_bounds-ask_all-end c = sym (length-take-le (64 * c.args.numbers.demanded) c.args.records.now c.requires.1)
+pub copy_from_slice-requires : goal.copy_from_slice-requires
+copy_from_slice-requires c = sym (length-take-le 8192 c.args.marks.now c.requires.0.marks-room)
 
-pub ask_all-g-requires : goal.ask_all-g-requires
-ask_all-g-requires c = (record { table-good = c.requires.0.table-good; known-good = c.requires.0.known-good; marks-room = omega arith }, c.requires.3, omega arith)
+pub ask_all-requires : goal.ask_all-requires
+ask_all-requires c = (
+  record { table-good = c.requires.0.table-good; known-good = c.requires.0.known-good; marks-room = omega arith },
+  omega (arith, lent-length 8 (8 * c.args.n) c.args.message.now c.requires.3),
+  omega arith,
+)
 
-pub returns-then-not-g : goal.returns-then-not-g
-returns-then-not-g c = let a = c.args in
-    inquiry_bad a.numbers a.table.now (take (64 * a.numbers.demanded) a.records.now) a.salt (unpacked 64 a.n (part 8 (8 * a.n) a.message.now)) a.marks.now a.out.now
-    c.if-salt-numbers.false (went (goal.at.returns-then-not-g c).After-ask_all-g) (test_refused refl c.if-not-g.true) c.aborted-then-not-g.ensures
+pub returns-in_default : goal.returns-in_default
+returns-in_default c = let a = c.args in
+    let known = take (64 * a.numbers.demanded) a.records.now in
+    inquiry_bad a.numbers a.table.now known a.salt (ids a.n a.message.now) a.marks.now a.out.now c.if-salt-numbers.false
+    (not-inquired a.table.now known (ids a.n a.message.now) a.marks.now c.copy_from_slice.ensures.after (rw (ids_lent a.n a.message.now c.requires.3) at c.in_default.ensures))
+    c.aborted-in_default.ensures
 
-pub copy-requires-2 : goal.copy-requires-2
-copy-requires-2 c = (omega (arith, (went (goal.at.copy-requires-2 c).After-ask_all-g).long (test_granted refl c.if-not-g.false)), c.requires.0.marks-room)
-
-pub overflow_mul-to : goal.overflow_mul-to
-overflow_mul-to c = omega (arith, (went (goal.at.overflow_mul-to c).After-ask_all-g).few (test_granted refl c.if-not-g.false))
+pub overflow_mul-hashes : goal.overflow_mul-hashes
+overflow_mul-hashes c = omega (arith, (went (goal.at.overflow_mul-hashes c).In-Some).few)
 
 pub slice_bounds-hashes-end : goal.slice_bounds-hashes-end
-slice_bounds-hashes-end c = within (goal.at.slice_bounds-hashes-end c).After-ask_all-g c.if-not-g.false
+slice_bounds-hashes-end c = within (goal.at.slice_bounds-hashes-end c).In-Some
 
 pub slice_bounds-send_offers-end : goal.slice_bounds-send_offers-end
-slice_bounds-send_offers-end c = sym (cut (goal.at.slice_bounds-send_offers-end c).After-ask_all-g c.if-not-g.false)
+slice_bounds-send_offers-end c = sym (length-take-le (64 * c.in-Some.m) c.ask_all.new.hashes (within (goal.at.slice_bounds-send_offers-end c).In-Some))
 
 pub send_offers-sent-requires : goal.send_offers-sent-requires
-send_offers-sent-requires c = let fine = c.if-not-g.false in
-    (omega (arith, cut (goal.at.send_offers-sent-requires c).After-ask_all-g fine), omega (arith, (went (goal.at.send_offers-sent-requires c).After-ask_all-g).room (test_granted refl fine), c.requires.4))
+send_offers-sent-requires c = let at = (goal.at.send_offers-sent-requires c).In-Some in
+    (omega (arith, length-take-le (64 * c.in-Some.m) c.ask_all.new.hashes (within at)), omega (arith, (went at).room, c.requires.4))
 
 pub returns : goal.returns
 returns c = let a = c.args in
-    inquiry-taken a.numbers a.table.now (take (64 * a.numbers.demanded) a.records.now) a.salt (unpacked 64 a.n (part 8 (8 * a.n) a.message.now)) a.marks.now a.out.now
-    c.if-salt-numbers.false (went (goal.at.returns c).After-ask_all-g) (test_granted refl c.if-not-g.false) c.changed.ensures c.copy-2.ensures c.send_offers-sent.ensures
+    let at = (goal.at.returns c).In-Some in
+    inquiry-taken a.numbers a.table.now (take (64 * a.numbers.demanded) a.records.now) a.salt (ids a.n a.message.now) a.marks.now a.out.now
+    c.if-salt-numbers.false (went at) c.changed.ensures
+    (front_over 8192 c.copy_from_slice-2.new.self a.marks.now (ap length c.copy_from_slice-2.ensures.after ∙ (went at).long)
+    ∙ ap (λ (l : List ℕ). over 0 l a.marks.now) c.copy_from_slice-2.ensures.after)
+    c.send_offers-sent.ensures

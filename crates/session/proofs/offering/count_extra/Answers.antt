@@ -1,34 +1,43 @@
-use mathlib.Core.Bool.{not}
-use mathlib.Core.Path.{ap, sym, ◌∙◌}
-use Prim.Native.Nat.{◌*◌, ◌<◌}
+use mathlib.Core.Path.{◌≡◌, sym, ap, ◌∙◌}
+use mathlib.Core.List.{◌∷◌}
 use native.Mathlib.Omega.{arith}
-use lib.ListN.{length, take}
-use Rattle.bucket.proofs.TestLaws.{test_refused, test_granted}
-use Rattle.filter.specs.Table.{first_eight, ids_of}
-use Rattle.session.proofs.GatheredLaws.{first-id, firsts-ids, counting-start, counting_yes, counting_no, counted}
+use lib.ListN.{length}
+use Rattle.bucket.specs.Digits.{joined}
+use Rattle.filter.specs.Table.{first_eight, hashes_of, holds}
+use Rattle.filter.proofs.TableLaws.{hashes-length}
+use Rattle.session.proofs.ChunkLaws.{hashes-cons, hashes_none}
+use Rattle.session.proofs.PlaceLaws.{id_of_hash}
+use Rattle.session.proofs.GatheredLaws.{counting_yes, counting_no, counting-end}
 use Rattle.session.proofs.offering.count_extra.Goals as goal
-use Rattle.session.proofs.offering.count_extra.Goals.{then-not-holds_id, else-not-holds_id}
+use Rattle.session.proofs.offering.count_extra.Goals.{After-holds_id}
 
-pub loop-i-init : goal.loop-i-init
-loop-i-init c = let a = c.args in
-    counting-start (take a.k a.inquired.now) (ids_of first_eight (take (64 * a.m) a.hashes.now))
+size : (c : After-holds_id) → length c.in-Some.hash.now ≡ 64
+size c = c.in-Some.ensures.steps.1.1 ∙ c.loop-hash.invariant.size
 
-pub holds_id-requires : goal.holds_id-requires
-holds_id-requires c = (c.requires.2, c.requires.3)
+-- the hash is the first of those that were left
+left : (c : After-holds_id) → hashes_of c.loop-hash.hash-iterator.rest.now ≡ joined 8 c.in-Some.hash.now ∷ hashes_of c.next.new.self.rest.now
+left c = hashes-cons c.in-Some.hash.now c.next.new.self.rest.now c.in-Some.ensures.steps.1.0 (size c)
 
-pub overflow_add-c : goal.overflow_add-c
-overflow_add-c c = omega (arith, c.loop-i.invariant.most)
+judged : (c : After-holds_id) → holds c.args.inquired.now (first_eight (joined 8 c.in-Some.hash.now)) ≡ c.holds_id.result
+judged c = ap (holds c.args.inquired.now) (sym (id_of_hash c.in-Some.hash.now (size c) c.number_at.ensures)) ∙ sym c.holds_id.ensures
 
-pub loop-i-preserved : goal.loop-i-preserved
-loop-i-preserved c = let a = c.args in
-    let at = c.loop-i in
-    let l : at.i < length (ids_of first_eight (take (64 * a.m) a.hashes.now)) = rw (firsts-ids a.m a.hashes.now c.requires.0) c.loop-i-test.true in
-    let item = c.number_at-id.ensures ∙ sym (first-id a.m a.hashes.now c.requires.0 at.i c.loop-i-test.true) in
-    elim c.if-not-holds_id.branch [
-      | then-not-holds_id w ↦ counting_yes at.invariant l item (test_refused c.holds_id.ensures (ap not w.if-not-holds_id.true)) w.c-is
-      | else-not-holds_id w ↦ counting_no at.invariant l item (test_granted c.holds_id.ensures (ap not w.if-not-holds_id.false)) w.c-is
-    ]
+pub overflow_add-n : goal.overflow_add-n
+overflow_add-n c = omega (arith, c.loop-hash.invariant.counted.most, hashes-length c.args.hashes.now)
+
+pub loop-hash-preserved-then-not-holds_id : goal.loop-hash-preserved-then-not-holds_id
+loop-hash-preserved-then-not-holds_id c = let at = (goal.at.loop-hash-preserved-then-not-holds_id c).After-holds_id in
+    record {
+      size = c.in-Some.ensures.steps.0 ∙ c.loop-hash.invariant.size;
+      counted = counting_yes c.loop-hash.invariant.counted (left at) (judged at ∙ c.if-not-holds_id.true);
+    }
+
+pub loop-hash-preserved : goal.loop-hash-preserved
+loop-hash-preserved c = let at = (goal.at.loop-hash-preserved c).After-holds_id in
+    record {
+      size = c.in-Some.ensures.steps.0 ∙ c.loop-hash.invariant.size;
+      counted = counting_no c.loop-hash.invariant.counted (left at) (judged at ∙ c.if-not-holds_id.false);
+    }
 
 pub returns : goal.returns
-returns c = let a = c.args in
-    counted (take a.k a.inquired.now) a.m a.hashes.now c.requires.0 c.loop-i-test.false c.loop-i.invariant
+returns c = let e = counting-end c.loop-hash.invariant.counted (hashes_none c.loop-hash.hash-iterator.rest.now (omega (arith, c.in-None.ensures.steps.1.0, c.loop-hash.invariant.size))) in
+    (e.0, omega (arith, e.1, hashes-length c.args.hashes.now))

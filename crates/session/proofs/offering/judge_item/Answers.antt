@@ -1,80 +1,71 @@
--- `session::offering::judge_item` meets its contract. Assumes nothing.
+-- `offering::judge_item` meets its contract: its tests are the definition's, one after the other. Assumes nothing.
 use mathlib.Core.Path.{refl, sym, ap, ◌∙◌}
 use mathlib.Core.Bool.{Bool, not, ◌&&◌}
-use Prim.Native.Nat.{ℕ}
+use Prim.Native.Nat.{ℕ, ◌*◌}
 use native.Mathlib.Omega.{arith}
-use lib.Dec.{eqb}
-use lib.ListN.{take}
+use Rattle.std.proofs.Common.{rules}
 use borrow.Author.Tests.{lt-ltb, le-ltb}
+use lib.Dec.{eqb}
 use Rattle.bucket.specs.Digits.{joined}
-use Rattle.bucket.specs.Lists.{part}
-use Rattle.bucket.proofs.TestLaws.{and_fails, and_holds, test_refused, test_granted}
+use Rattle.bucket.proofs.TestLaws.{and_fails, and_holds}
 use Rattle.filter.specs.Table.{holds}
-use Rattle.session.proofs.PlaceLaws.{place-placed}
-use Rattle.session.proofs.OfferLaws.{item_judged, found_inside, found-hash}
+use Rattle.message.proofs.WholeLaws.{part-below}
+use Rattle.session.proofs.ChunkLaws.{lent, lent-length}
+use Rattle.session.proofs.PlaceLaws.{id_of_hash, index-within, place-placed, place-same, same_bytes}
+use Rattle.session.proofs.OfferLaws.{item_judged, found-hash}
 use Rattle.session.proofs.offering.judge_item.Goals as goal
+use Rattle.session.proofs.offering.judge_item.Goals.{else-active-via-then-active+else-not-holds_id, else-active-via-else-active}
 
-pub is_hash_at-requires : goal.is_hash_at-requires
-is_hash_at-requires c = let a = c.args in
-    (place-placed a.table.now a.known.now c.number_at-id.result c.requires.0 c.requires.1 c.place_of-p.ensures c.if-p-lt-NOWHERE.true, c.requires.5)
+pub hash_at-requires : goal.hash_at-requires
+hash_at-requires c = let f = c.in-Some.ensures in
+    place-placed c.args.table.now c.args.known.now c.number_at-id.result c.requires.0 c.requires.1 f.0 f.1
 
-pub returns-then-is_hash_at : goal.returns-then-is_hash_at
-returns-then-is_hash_at c = let a = c.args in
-    item_judged a.table.now a.known.now a.fresh.now (take a.k a.inquired.now) a.active a.at a.message.now c.requires.5
-    c.number_at-id.ensures c.place_of-p.ensures
-    (lt-ltb c.place_of-p.result 8192 c.if-p-lt-NOWHERE.true) (sym c.is_hash_at.ensures ∙ c.if-is_hash_at.true) refl refl refl
+pub returns-in-Some : goal.returns-in-Some
+returns-in-Some c = let a = c.args in
+    let f = c.in-Some.ensures in
+    c.known_if.ensures
+    ∙ item_judged a.table.now a.known.now a.fresh.now a.inquired.now a.active (joined 8 a.hash.now) (id_of_hash a.hash.now c.requires.4 c.number_at-id.ensures) f.0
+    (lt-ltb c.in-Some.p 8192 f.1)
+    (sym (place-same a.table.now a.known.now c.in-Some.p c.hash_at.ensures a.hash.now c.requires.4 (λ n. search rules)) ∙ sym c.eq.ensures)
+    refl refl refl
 
-pub returns-then-p-lt-NOWHERE : goal.returns-then-p-lt-NOWHERE
-returns-then-p-lt-NOWHERE c = let a = c.args in
-    item_judged a.table.now a.known.now a.fresh.now (take a.k a.inquired.now) a.active a.at a.message.now c.requires.5
-    c.number_at-id.ensures c.place_of-p.ensures
-    (lt-ltb c.place_of-p.result 8192 c.if-p-lt-NOWHERE.true) (sym c.is_hash_at.ensures ∙ c.if-is_hash_at.false) refl refl refl
+pub overflow_mul-i : goal.overflow_mul-i
+overflow_mul-i c = omega (arith, index-within c.args.fresh.now c.number_at-id.result c.in-Some-index_of.ensures, c.requires.2)
 
-pub overflow_mul-q : goal.overflow_mul-q
-overflow_mul-q c = let a = c.args in
-    omega (arith, found_inside a.fresh.now c.number_at-id.result c.id_position-q.ensures (sym c.holds_id.ensures ∙ c.if-holds_id.true), c.requires.2)
+pub overflow_mul-i-in-Some-index_of : goal.overflow_mul-i-in-Some-index_of
+overflow_mul-i-in-Some-index_of c = omega (arith, index-within c.args.fresh.now c.number_at-id.result c.in-Some-index_of.ensures, c.requires.2)
 
-pub same_hash-requires : goal.same_hash-requires
-same_hash-requires c = let a = c.args in
-    (omega (arith, found_inside a.fresh.now c.number_at-id.result c.id_position-q.ensures (sym c.holds_id.ensures ∙ c.if-holds_id.true)), c.requires.5)
+pub overflow_add-i : goal.overflow_add-i
+overflow_add-i c = omega (arith, index-within c.args.fresh.now c.number_at-id.result c.in-Some-index_of.ensures, c.requires.2)
 
-pub returns-then-same_hash : goal.returns-then-same_hash
-returns-then-same_hash c = let a = c.args in
-    let there = sym c.holds_id.ensures ∙ c.if-holds_id.true in
-    item_judged a.table.now a.known.now a.fresh.now (take a.k a.inquired.now) a.active a.at a.message.now c.requires.5
-    c.number_at-id.ensures c.place_of-p.ensures
-    (le-ltb c.place_of-p.result 8192 c.if-p-lt-NOWHERE.false) refl there
-    (ap (λ (v : ℕ). eqb v (joined 8 (part a.at 64 a.message.now))) (sym (found-hash a.fresh.now c.number_at-id.result c.id_position-q.ensures there))
-    ∙ sym c.same_hash.ensures ∙ c.if-same_hash.true)
-    refl
+pub slice_bounds-eq-end : goal.slice_bounds-eq-end
+slice_bounds-eq-end c = omega (arith, index-within c.args.fresh.now c.number_at-id.result c.in-Some-index_of.ensures)
 
-pub returns-then-holds_id : goal.returns-then-holds_id
-returns-then-holds_id c = let a = c.args in
-    let there = sym c.holds_id.ensures ∙ c.if-holds_id.true in
-    item_judged a.table.now a.known.now a.fresh.now (take a.k a.inquired.now) a.active a.at a.message.now c.requires.5
-    c.number_at-id.ensures c.place_of-p.ensures
-    (le-ltb c.place_of-p.result 8192 c.if-p-lt-NOWHERE.false) refl there
-    (ap (λ (v : ℕ). eqb v (joined 8 (part a.at 64 a.message.now))) (sym (found-hash a.fresh.now c.number_at-id.result c.id_position-q.ensures there))
-    ∙ sym c.same_hash.ensures ∙ c.if-same_hash.false)
+pub returns-in-Some-index_of : goal.returns-in-Some-index_of
+returns-in-Some-index_of c = let a = c.args in
+    let i = c.in-Some-index_of.i in
+    let f = c.in-Some-index_of.ensures in
+    let room = index-within a.fresh.now c.number_at-id.result f in
+    c.known_if-in-Some-index_of.ensures
+    ∙ item_judged a.table.now a.known.now a.fresh.now a.inquired.now a.active (joined 8 a.hash.now) (id_of_hash a.hash.now c.requires.4 c.number_at-id.ensures) (sym c.in_default.ensures)
+    (le-ltb 8192 8192 (omega arith)) refl f.1
+    (ap (λ (v : ℕ). eqb v (joined 8 a.hash.now)) (sym (ap (joined 8) (lent (64 * i) 64 a.fresh.now) ∙ found-hash a.fresh.now c.number_at-id.result f))
+    ∙ sym (c.eq-in-Some-index_of.ensures
+    ∙ same_bytes _ a.hash.now (lent-length (64 * i) 64 a.fresh.now (omega (arith, room))) c.requires.4
+    (rw lent (part-below (64 * i) 64 a.fresh.now (λ n. (c.type_inv.fresh n).fits))) (λ n. search rules)))
     refl
 
 pub returns-then-not-holds_id : goal.returns-then-not-holds_id
 returns-then-not-holds_id c = let a = c.args in
-    item_judged a.table.now a.known.now a.fresh.now (take a.k a.inquired.now) a.active a.at a.message.now c.requires.5
-    c.number_at-id.ensures c.place_of-p.ensures
-    (le-ltb c.place_of-p.result 8192 c.if-p-lt-NOWHERE.false) refl (sym c.holds_id.ensures ∙ c.if-holds_id.false) refl
-    (and_holds c.if-active.true (ap not (test_refused c.holds_id-then-active.ensures (ap not c.if-not-holds_id.true))))
+    item_judged a.table.now a.known.now a.fresh.now a.inquired.now a.active (joined 8 a.hash.now) (id_of_hash a.hash.now c.requires.4 c.number_at-id.ensures) (sym c.in_default.ensures)
+    (le-ltb 8192 8192 (omega arith)) refl c.in_default-index_of.ensures refl
+    (and_holds c.if-active.true (ap not (sym c.holds_id.ensures ∙ c.if-not-holds_id.true)))
 
-pub returns-else-not-holds_id : goal.returns-else-not-holds_id
-returns-else-not-holds_id c = let a = c.args in
-    item_judged a.table.now a.known.now a.fresh.now (take a.k a.inquired.now) a.active a.at a.message.now c.requires.5
-    c.number_at-id.ensures c.place_of-p.ensures
-    (le-ltb c.place_of-p.result 8192 c.if-p-lt-NOWHERE.false) refl (sym c.holds_id.ensures ∙ c.if-holds_id.false) refl
-    (and_fails a.active (ap not (test_granted c.holds_id-then-active.ensures (ap not c.if-not-holds_id.false))))
-
-pub returns-else-active : goal.returns-else-active
-returns-else-active c = let a = c.args in
-    item_judged a.table.now a.known.now a.fresh.now (take a.k a.inquired.now) a.active a.at a.message.now c.requires.5
-    c.number_at-id.ensures c.place_of-p.ensures
-    (le-ltb c.place_of-p.result 8192 c.if-p-lt-NOWHERE.false) refl (sym c.holds_id.ensures ∙ c.if-holds_id.false) refl
-    (ap (λ (t : Bool). t && not (holds (take a.k a.inquired.now) c.number_at-id.result)) c.if-active.false)
+pub returns : goal.returns
+returns c = let a = c.args in
+    item_judged a.table.now a.known.now a.fresh.now a.inquired.now a.active (joined 8 a.hash.now) (id_of_hash a.hash.now c.requires.4 c.number_at-id.ensures) (sym c.in_default.ensures)
+    (le-ltb 8192 8192 (omega arith)) refl c.in_default-index_of.ensures refl
+    (elim c.else-active.branch [
+      | else-active-via-then-active+else-not-holds_id w ↦ and_fails a.active (ap not (sym w.holds_id.ensures ∙ w.if-not-holds_id.false))
+      | else-active-via-else-active w ↦ ap (λ (t : Bool). t && not (holds a.inquired.now c.number_at-id.result)) w.if-active.false
+    ])

@@ -1,14 +1,13 @@
--- `session::offering::new_all` meets its contract. The invariant: the walk has come to item i. The measure is how many items are left.
--- Assumes nothing.
-use Prim.Native.Nat.{◌*◌, ◌-◌}
-use lib.ListN.{take}
-use Rattle.bucket.specs.Digits.{unpacked}
-use Rattle.bucket.specs.Lists.{part}
+-- `offering::new_all` meets its contract. The invariant: the walk has the hashes left that the iterator has. Assumes nothing.
+use mathlib.Core.Path.{◌≡◌}
+use Rattle.bucket.specs.Digits.{Below}
+use Rattle.filter.specs.Table.{hashes_of}
 use Rattle.session.proofs.OfferLaws.{Offering}
 use Rattle.session.proofs.offering.new_all.Given as goal
 
-abbrev pub invariant-loop-i : goal.invariant-loop-i
-invariant-loop-i l = Offering l.table l.known (take l.k l.inquired) l.active (unpacked 512 l.n (part 4 (64 * l.n) l.message)) l.initial.fresh l.initial.hashes l.fresh l.hashes l.m l.i
-
-abbrev pub decreases-loop-i : goal.decreases-loop-i
-decreases-loop-i l = l.n - l.i
+abbrev pub invariant-loop-hash : goal.invariant-loop-hash
+invariant-loop-hash l = record {
+  size : l.hash-iterator.size ≡ 64;
+  bytes : Below 8 l.hash-iterator.rest.now;
+  walk : Offering l.table l.known l.inquired l.active (hashes_of l.offered) l.initial.fresh l.initial.hashes l.fresh l.hashes l.m (hashes_of l.hash-iterator.rest.now)
+}

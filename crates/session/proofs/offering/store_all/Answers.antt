@@ -1,38 +1,38 @@
-use mathlib.Core.Path.{sym, ap, ◌∙◌}
-use Prim.Native.Nat.{◌+◌, ◌*◌}
+use mathlib.Core.Path.{◌≡◌, refl, sym, ap, ◌∙◌}
+use mathlib.Core.List.{◌∷◌}
 use native.Mathlib.Omega.{arith}
-use lib.ListN.{take}
-use Rattle.filter.specs.Table.{first_eight, hashes_of, ids_of, position}
-use Rattle.filter.proofs.TableLaws.{first_eight_part}
-use Rattle.session.proofs.PlaceLaws.{bytes_back}
-use Rattle.session.proofs.GatheredLaws.{first-hash, firsts-count, putting_start, putting_next, putting_end}
+use lib.ListN.{length, length-append}
+use Rattle.bucket.specs.Digits.{joined}
+use Rattle.bucket.proofs.DigitLaws.{groups-joined}
+use Rattle.filter.specs.Table.{hashes_of}
+use Rattle.session.proofs.ChunkLaws.{front-below, rest-below, hashes-cons, hashes_none}
+use Rattle.session.proofs.GatheredLaws.{putting_start, putting_next, putting_end}
 use Rattle.session.proofs.offering.store_all.Goals as goal
 
-pub loop-i-init : goal.loop-i-init
-loop-i-init c = let a = c.args in
-    putting_start a.n (hashes_of (take (64 * a.m) a.hashes.now)) a.records.now a.marks.now
+pub loop-hash-init : goal.loop-hash-init
+loop-hash-init c = let a = c.args in
+    rw (c.into_iter-hash-iterator.ensures.into_iter_gives, c.chunks_exact-hash-items.ensures.rest, c.chunks_exact-hash-items.ensures.size) record {
+      size = refl;
+      bytes = λ i. (c.type_inv.hashes i).fits;
+      room = c.requires.2;
+      put = putting_start a.n (hashes_of a.hashes.now) a.records.now a.marks.now;
+    }
 
-pub insert_hash-p-requires : goal.insert_hash-p-requires
-insert_hash-p-requires c = (omega (arith, c.requires.0, c.loop-i.invariant.same-records), omega (arith, c.requires.3), omega arith)
-
-pub insert_mark-requires : goal.insert_mark-requires
-insert_mark-requires c = (c.insert_hash-p.ensures.1, omega arith, omega (arith, c.requires.1, c.loop-i.invariant.same-marks))
-
-pub loop-i-preserved : goal.loop-i-preserved
-loop-i-preserved c = let a = c.args in
-    let at = c.loop-i in
-    let l = c.loop-i-test.true in
+pub loop-hash-preserved : goal.loop-hash-preserved
+loop-hash-preserved c = let at = c.loop-hash.invariant in
+    let step = c.in-Some.ensures.steps in
+    let h = c.in-Some.hash.now in
+    let rest = c.next.new.self.rest.now in
+    let size : length h ≡ 64 = step.1.1 ∙ at.size in
     let put = c.insert_hash-p.ensures in
-    putting_next at.invariant (rw (firsts-count a.m a.hashes.now c.requires.3) l) (sym (first-hash a.m a.hashes.now c.requires.3 at.i l))
-    (bytes_back (64 * at.i) a.hashes.now (omega (arith, c.requires.3)) (λ k. (c.shared_slice_known-1.given k).fits))
-    (put.0 ∙ ap (position (ids_of first_eight (take (64 * (a.n + at.i)) at.records))) (sym (first_eight_part (64 * at.i) a.hashes.now (omega (arith, c.requires.3)))))
-    put.2 c.insert_mark.ensures c.insert_hash-p.auto.hashes c.insert_mark.auto.marks
-
-pub shape_of-records : goal.shape_of-records
-shape_of-records c = c.loop-i.invariant.same-records
-
-pub shape_of-marks : goal.shape_of-marks
-shape_of-marks c = c.loop-i.invariant.same-marks
+    record {
+      size = step.0 ∙ at.size;
+      bytes = rest-below h rest step.1.0 at.bytes;
+      room = omega (arith, at.room, ap length step.1.0, length-append h rest, size);
+      put =
+          putting_next at.put (hashes-cons h rest step.1.0 size) (rw size at (groups-joined 8 h (front-below h rest step.1.0 at.bytes)))
+          put.0 put.2 c.insert_mark.ensures c.insert_hash-p.auto.hashes c.insert_mark.auto.marks;
+    }
 
 pub returns : goal.returns
-returns c = putting_end c.loop-i.invariant (rw (firsts-count c.args.m c.args.hashes.now c.requires.3) c.loop-i-test.false)
+returns c = putting_end c.loop-hash.invariant.put (hashes_none c.loop-hash.hash-iterator.rest.now (omega (arith, c.in-None.ensures.steps.1.0, c.loop-hash.invariant.size)))

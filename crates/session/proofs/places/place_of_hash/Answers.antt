@@ -1,24 +1,31 @@
--- `session::places::place_of_hash` meets its contract. Assumes nothing.
-use mathlib.Core.Path.{sym, ◌∙◌}
-use Rattle.session.proofs.PlaceLaws.{place-placed, hash-placed, hash_other, hash-nowhere}
+-- `places::place_of_hash` meets its contract: the hash at the place of its ID is compared. Assumes nothing.
+use mathlib.Core.Path.{refl, sym, ◌∙◌}
+use native.Mathlib.Omega.{arith}
+use Rattle.std.proofs.Common.{rules}
+use Rattle.bucket.specs.Digits.{joined}
+use Rattle.bucket.proofs.TestLaws.{test_refused, test_granted}
+use Rattle.session.proofs.PlaceLaws.{id_of_hash, place-placed, place-same, hash-placed, hash_other, hash-nowhere}
 use Rattle.session.proofs.places.place_of_hash.Goals as goal
 
-pub is_hash_at-requires : goal.is_hash_at-requires
-is_hash_at-requires c = (place-placed c.args.table.now c.args.known.now c.number_at-id.result c.requires.0 c.requires.1 c.place_of-p.ensures c.if-p-lt-NOWHERE.true, c.requires.2)
+pub returns-in_err-p : goal.returns-in_err-p
+returns-in_err-p c = let a = c.args in
+    rw c.from_residual.ensures
+    (sym (hash-nowhere a.table.now a.known.now (joined 8 a.hash.now) (id_of_hash a.hash.now c.requires.2 c.number_at.ensures) (sym c.in_err-p.ensures) (omega arith)))
 
-pub returns-then-is_hash_at : goal.returns-then-is_hash_at
-returns-then-is_hash_at c = let a = c.args in
-    hash-placed a.table.now a.known.now a.at a.h.now c.requires.2
-    c.number_at-id.ensures c.place_of-p.ensures
-    c.if-p-lt-NOWHERE.true (sym c.is_hash_at.ensures ∙ c.if-is_hash_at.true)
+pub hash_at-requires : goal.hash_at-requires
+hash_at-requires c = let f = c.in_ok-p.ensures in
+    place-placed c.args.table.now c.args.known.now c.number_at.result c.requires.0 c.requires.1 f.0 f.1
 
-pub returns-else-is_hash_at : goal.returns-else-is_hash_at
-returns-else-is_hash_at c = let a = c.args in
-    hash_other a.table.now a.known.now a.at a.h.now c.requires.2
-    c.number_at-id.ensures c.place_of-p.ensures
-    c.if-p-lt-NOWHERE.true (sym c.is_hash_at.ensures ∙ c.if-is_hash_at.false)
+pub returns-then-ne : goal.returns-then-ne
+returns-then-ne c = let a = c.args in
+    let f = c.in_ok-p.ensures in
+    sym (hash_other a.table.now a.known.now (joined 8 a.hash.now) (id_of_hash a.hash.now c.requires.2 c.number_at.ensures) f.0 f.1
+    (sym (place-same a.table.now a.known.now c.in_ok-p.p c.hash_at.ensures a.hash.now c.requires.2 (λ n. search rules)) ∙ test_refused refl (sym c.ne.ensures ∙ c.if-ne.true)))
 
-pub returns-else-p-lt-NOWHERE : goal.returns-else-p-lt-NOWHERE
-returns-else-p-lt-NOWHERE c = let a = c.args in
-    hash-nowhere a.table.now a.known.now a.at a.h.now c.requires.2
-    c.number_at-id.ensures c.place_of-p.ensures c.if-p-lt-NOWHERE.false
+pub returns : goal.returns
+returns c = let a = c.args in
+    let f = c.in_ok-p.ensures in (
+      hash-placed a.table.now a.known.now (joined 8 a.hash.now) (id_of_hash a.hash.now c.requires.2 c.number_at.ensures) f.0 f.1
+          (sym (place-same a.table.now a.known.now c.in_ok-p.p c.hash_at.ensures a.hash.now c.requires.2 (λ n. search rules)) ∙ test_granted refl (sym c.ne.ensures ∙ c.if-ne.false)),
+      f.1,
+    )

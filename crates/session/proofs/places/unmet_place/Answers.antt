@@ -1,26 +1,28 @@
 -- `places::unmet_place` meets its contract: each test that fails makes the place none. Assumes nothing.
-use native.Mathlib.Omega.{arith}
 use mathlib.Core.Path.{sym, ap, ◌∙◌}
-use Rattle.filter.proofs.TableLaws.{table-count, table-whole}
+use native.Mathlib.Omega.{arith}
 use Rattle.session.specs.Moves.{unmet_at}
-use Rattle.session.proofs.PlaceLaws.{unmet-inside, unmet_outside, unmet-met, unmet-there}
+use Rattle.session.proofs.PlaceLaws.{table-short, unmet_outside, unmet_nowhere, unmet-met, unmet-there}
 use Rattle.session.proofs.places.unmet_place.Goals as goal
+use Rattle.session.proofs.places.unmet_place.Goals.{then-p-lt-RECORDS-via-then-p-lt-RECORDS, then-p-lt-RECORDS-via-else-p-lt-RECORDS+then-is_met}
 
-pub place_of_hash-p-requires : goal.place_of_hash-p-requires
-place_of_hash-p-requires c = (omega (arith, table-count c.args.table.now c.requires.0.table-good, table-whole c.args.table.now c.requires.0.table-good), c.requires.1, c.requires.2)
+pub place_of_hash-requires : goal.place_of_hash-requires
+place_of_hash-requires c = let k = c.requires.0 in
+    (table-short c.args.table.now k.table-good, table-short c.args.known.now k.known-good, c.requires.1)
 
-pub returns-then-p : goal.returns-then-p
-returns-then-p c = let M = c.args.marks.now in
-    unmet_outside M c.place_of_hash-p.result c.if-p.true ∙ ap (unmet_at M) c.place_of_hash-p.ensures
+pub returns-in_err-p : goal.returns-in_err-p
+returns-in_err-p c = rw c.from_residual.ensures (unmet_nowhere c.args.marks.now _ c.in_err-p.ensures)
 
-pub bounds-marks-p : goal.bounds-marks-p
-bounds-marks-p c = let within = unmet-inside c.args.marks.now c.place_of_hash-p.result c.if-p.false in
-    omega (arith, within.1, c.requires.0.marks-room)
-
-pub returns-then-is_met : goal.returns-then-is_met
-returns-then-is_met c = let M = c.args.marks.now in
-    unmet-met M c.place_of_hash-p.result (sym c.is_met.ensures ∙ c.if-is_met.true) ∙ ap (unmet_at M) c.place_of_hash-p.ensures
+pub returns-then-p-lt-RECORDS : goal.returns-then-p-lt-RECORDS
+returns-then-p-lt-RECORDS c = let M = c.args.marks.now in
+    let p = c.in_ok-p.p in
+    sym (ap (unmet_at M) c.in_ok-p.ensures.0)
+    ∙ elim c.then-p-lt-RECORDS.branch [
+      | then-p-lt-RECORDS-via-then-p-lt-RECORDS w ↦ unmet_outside M p w.if-p-lt-RECORDS.true
+      | then-p-lt-RECORDS-via-else-p-lt-RECORDS+then-is_met w ↦ unmet-met M p (sym w.is_met.ensures ∙ w.if-is_met.true)
+    ]
 
 pub returns : goal.returns
 returns c = let M = c.args.marks.now in
-    unmet-there M c.place_of_hash-p.result c.if-p.false (sym c.is_met.ensures ∙ c.if-is_met.false) ∙ ap (unmet_at M) c.place_of_hash-p.ensures
+    let (is, inside) = c.in_ok-p.ensures in
+    (unmet-there M c.in_ok-p.p c.if-p-lt-RECORDS.false inside (sym c.is_met.ensures ∙ c.if-is_met.false) ∙ ap (unmet_at M) is, inside)
