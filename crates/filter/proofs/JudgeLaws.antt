@@ -10,7 +10,7 @@ use lib.Dec.{eqb}
 use lib.IntN.{ℤ, pos, negsuc}
 use lib.ListN.{get_or, take}
 use Rattle.std.proofs.lemmas.Bool.Decides.{nat_tests}
-use Rattle.std.specs.List.{list_all, list_any}
+use Rattle.std.specs.List.{fold, list_all, list_any}
 use Rattle.std.specs.Ordering.{int_eq}
 use Rattle.std.proofs.lemmas.List.Folds.{list_all_more}
 use Rattle.bucket.specs.Bucket.{is_zero, is_zero_ℤ}
@@ -21,8 +21,15 @@ use Rattle.filter.specs.Peeling.{all_zero, agrees}
 use Rattle.filter.specs.Steps.{Wide, agree, every}
 use Rattle.filter.proofs.FilledLaws.{wide-less}
 
+-- a test of all that goes on where one fails
+pub fold-all : {A : Type 0} (p : A → Bool) (l : List A) (good : Bool) → fold (λ g x. g && p x) good l ≡ good && list_all p l
+fold-all p [] true = refl
+fold-all p [] false = refl
+fold-all p (x ∷ l) true = fold-all p l (p x)
+fold-all p (x ∷ l) false = fold-all p l false
+
 -- three columns that are zero in the first n places are n zero buckets
-sorted : (a b c p q r : Bool) → (a && p) && ((b && q) && (c && r)) ≡ (p && (q && r)) && (a && (b && c))
+sorted : (a b c p q r : Bool) → ((a && p) && (b && q)) && (c && r) ≡ (p && (q && r)) && ((a && b) && c)
 sorted a b c p q r = grind arith
 
 zero-count : (z : ℤ) → int_eq z (pos 0) ≡ is_zero_ℤ z
@@ -31,14 +38,14 @@ zero-count (pos (suc n)) = grind (arith, nat_tests)
 zero-count (negsuc n) = refl
 
 pub zero-columns : (n : ℕ) (is hs : List ℕ) (cs : List ℤ) → Wide n (columns is hs cs)
-    → list_all (λ x. eqb x 0) (take n is) && (list_all (λ x. eqb x 0) (take n hs) && list_all (λ z. int_eq z (pos 0)) (take n cs))
+    → (list_all (λ x. eqb x 0) (take n is) && list_all (λ x. eqb x 0) (take n hs)) && list_all (λ z. int_eq z (pos 0)) (take n cs)
     ≡ all_zero (view (columns is hs cs)) n
 unfolding all_zero is_zero view
 zero-columns zero is hs cs w = refl
 zero-columns (suc n) is hs cs w =
     rw (← add-one n)
-    (ap₂ ◌&&◌ (list_all_more (λ x. eqb x 0) is n 0 w.idsums)
-    (ap₂ ◌&&◌ (list_all_more (λ x. eqb x 0) hs n 0 w.hashsums) (list_all_more (λ z. int_eq z (pos 0)) cs n (pos 0) w.counts))
+    (ap₂ ◌&&◌ (ap₂ ◌&&◌ (list_all_more (λ x. eqb x 0) is n 0 w.idsums) (list_all_more (λ x. eqb x 0) hs n 0 w.hashsums))
+    (list_all_more (λ z. int_eq z (pos 0)) cs n (pos 0) w.counts)
     ∙ sorted (list_all (λ x. eqb x 0) (take n is)) (list_all (λ x. eqb x 0) (take n hs)) (list_all (λ z. int_eq z (pos 0)) (take n cs))
     (eqb (get_or is n 0) 0) (eqb (get_or hs n 0) 0) (int_eq (get_or cs n (pos 0)) (pos 0))
     ∙ ap₂ (λ (u v : Bool). (eqb (get_or is n 0) 0 && (eqb (get_or hs n 0) 0 && u)) && v) (zero-count (get_or cs n (pos 0)))

@@ -35,6 +35,8 @@ fn beginning(id: u64) -> usize
 }
 
 // Whether an ID is in the table. Two neighbours that it lies between decide; where no hint leads to them, a binary search does.
+// A part of both loops over IDs: a call for each would cost them a tenth.
+#[inline(always)]
 pub(crate) fn is_held(table: Table<'_>, hints: Option<&Hints>, id: u64) -> bool
     ensures { result ≡ elem id (ids_of first_eight table.entry.bytes.now) }
 {

@@ -1,44 +1,31 @@
 -- `judging::all_zero` meets its contract: columns that are zero one by one are zero buckets. Assumes nothing.
-use mathlib.Core.Path.{◌≡◌, sym, ◌∙◌}
+use mathlib.Core.Path.{ap₂, ◌∙◌}
+use mathlib.Core.Bool.{Bool, true, ◌&&◌}
 use lib.Dec.{eqb}
 use lib.IntN.{pos}
 use lib.ListN.{take}
 use Rattle.std.proofs.Common.{rules, tests}
 use Rattle.std.proofs.lemmas.Iterator.{YieldsList-from_slice}
-use Rattle.std.proofs.lemmas.Iterator.Search.{all_from_yields_List}
-use Rattle.std.specs.List.{list_all}
+use Rattle.std.proofs.lemmas.Iterator.Consumers.{fold_from_yields_List}
 use Rattle.std.specs.Ordering.{int_eq}
-use Rattle.filter.proofs.JudgeLaws.{zero-columns}
+use Rattle.filter.proofs.JudgeLaws.{fold-all, zero-columns}
 use Rattle.filter.proofs.judging.all_zero.Goals as goal
-use Rattle.filter.proofs.judging.all_zero.Goals.{After-all, After-all-then-all, After-all-then-all-2}
 
-ids : (c : After-all) → c.all.result ≡ list_all (λ x. eqb x 0) (take c.args.n c.args.ids.now)
-ids c = all_from_yields_List (λ x. eqb x 0) _ _ _ c.all.ensures.ran (YieldsList-from_slice (take c.args.n c.args.ids.now) cc) (λ x b q k. search (rules, tests))
-
-hashes : (c : After-all-then-all) → c.all-then-all.result ≡ list_all (λ x. eqb x 0) (take c.args.n c.args.hashes.now)
-hashes c = all_from_yields_List (λ x. eqb x 0) _ _ _ c.all-then-all.ensures.ran (YieldsList-from_slice (take c.args.n c.args.hashes.now) cc) (λ x b q k. search (rules, tests))
-
-counts : (c : After-all-then-all-2) → c.all-then-all-2.result ≡ list_all (λ z. int_eq z (pos 0)) (take c.args.n c.args.counts.now)
-counts c = all_from_yields_List (λ z. int_eq z (pos 0)) _ _ _ c.all-then-all-2.ensures.ran (YieldsList-from_slice (take c.args.n c.args.counts.now) cc) (λ x b q k. search (rules, tests))
-
-pub returns-then-all-2 : goal.returns-then-all-2
-returns-then-all-2 c = let a = c.args in
-    let p = goal.at.returns-then-all-2 c in
-    let i = ids p.After-all in
-    let h = hashes p.After-all-then-all in
-    let z = zero-columns a.n a.ids.now a.hashes.now a.counts.now c.requires in
-    counts c ∙ rw (sym i ∙ c.if-all.true, sym h ∙ c.if-all-2.true) at z
-
-pub returns-else-all-2 : goal.returns-else-all-2
-returns-else-all-2 c = let a = c.args in
-    let p = goal.at.returns-else-all-2 c in
-    let i = ids p.After-all in
-    let h = hashes p.After-all-then-all in
-    let z = zero-columns a.n a.ids.now a.hashes.now a.counts.now c.requires in
-    c.if-all-2.false ∙ rw (sym i ∙ c.if-all.true, sym h ∙ c.if-all-2.false) at z
-
-pub returns-else-all : goal.returns-else-all
-returns-else-all c = let a = c.args in
-    let i = ids (goal.at.returns-else-all c).After-all in
-    let z = zero-columns a.n a.ids.now a.hashes.now a.counts.now c.requires in
-    c.if-all.false ∙ rw (sym i ∙ c.if-all.false) at z
+pub returns : goal.returns
+returns c = let a = c.args in
+    let is = take a.n a.ids.now in
+    let hs = take a.n a.hashes.now in
+    let cs = take a.n a.counts.now in
+    let i =
+        fold_from_yields_List _ (λ (t : Bool) x. t && eqb x 0) true _ c.fold-no_id.ensures.ran
+        (YieldsList-from_slice is cc) (λ t x b q k. search (rules, tests))
+        ∙ fold-all (λ x. eqb x 0) is true in
+    let h =
+        fold_from_yields_List _ (λ (t : Bool) x. t && eqb x 0) true _ c.fold-no_hash.ensures.ran
+        (YieldsList-from_slice hs cc) (λ t x b q k. search (rules, tests))
+        ∙ fold-all (λ x. eqb x 0) hs true in
+    let z =
+        fold_from_yields_List _ (λ (t : Bool) x. t && int_eq x (pos 0)) true _ c.fold-no_count.ensures.ran
+        (YieldsList-from_slice cs cc) (λ t x b q k. search (rules, tests))
+        ∙ fold-all (λ x. int_eq x (pos 0)) cs true in
+    ap₂ ◌&&◌ (ap₂ ◌&&◌ i h) z ∙ zero-columns a.n a.ids.now a.hashes.now a.counts.now c.requires

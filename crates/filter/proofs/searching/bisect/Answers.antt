@@ -1,4 +1,4 @@
-use mathlib.Core.Path.{◌≡◌, sym, ◌∙◌}
+use mathlib.Core.Path.{◌≡◌, sym, ap, ◌∙◌}
 use mathlib.Core.Bool.{true, false}
 use Prim.Native.Nat.{◌+◌, ◌-◌, ◌/◌}
 use native.Mathlib.Omega.{arith}
@@ -14,7 +14,7 @@ loop-lo-preserved-then-below g c = let n = c.args.n in
       order = omega arith;
       within = omega arith;
       rest = λ p same.
-          sym (bisect-right p n lo hi (omega arith) c.loop-lo-test.true (sym (same ((lo + hi) / 2) true (omega arith) (rw mid at c.if-below.ensures))))
+          sym (bisect-right p n lo hi (omega arith) c.loop-lo-test.true (ap p (sym mid) ∙ sym (same (lo + (hi - lo) / 2) true (omega arith) c.if-below.ensures)))
           ∙ c.loop-lo.invariant.rest p same;
     }
 
@@ -27,7 +27,7 @@ loop-lo-preserved g c = let n = c.args.n in
       order = omega arith;
       within = omega arith;
       rest = λ p same.
-          sym (bisect-left p n lo hi (omega arith) c.loop-lo-test.true (sym (same ((lo + hi) / 2) false (omega arith) (rw mid at c.if-below.ensures))))
+          sym (bisect-left p n lo hi (omega arith) c.loop-lo-test.true (ap p (sym mid) ∙ sym (same (lo + (hi - lo) / 2) false (omega arith) c.if-below.ensures)))
           ∙ c.loop-lo.invariant.rest p same;
     }
 

@@ -1,13 +1,16 @@
 -- `filter::table::holds_hash` meets its contract: what stands where the search ends decides, and bytes of one length are the same if their numbers are.
 -- Assumes nothing.
-use mathlib.Core.Path.{sym, ◌∙◌}
+use mathlib.Core.Path.{◌≡◌, sym, ◌∙◌}
+use mathlib.Core.Bool.{◌&&◌}
 use Prim.Native.Nat.{◌*◌, ◌/◌, ◌<◌}
 use native.Mathlib.Omega.{arith}
 use borrow.Author.Tests.{le-leb}
+use lib.Dec.{eqb, leb}
 use lib.ListN.{length, get_or}
+use Rattle.std.specs.Cmp.Lexicographic.{pointwise}
 use Rattle.bucket.specs.Lists.{part}
 use Rattle.bucket.proofs.OverLaws.{part_length}
-use Rattle.filter.specs.Table.{hashes_of}
+use Rattle.filter.specs.Table.{hashes_of, holds}
 use Rattle.filter.proofs.BisectLaws.{holds-there}
 use Rattle.filter.proofs.CompareLaws.{same-joined, part-below}
 use Rattle.filter.proofs.TableLaws.{hashes-length, hash-bytes}
@@ -27,4 +30,6 @@ returns-then-at-count c = let t = c.args.table.now in
     (part-below (at.result * 64) 64 t (λ n. (c.type_inv.table n).fits)) (part-below 0 64 h (λ n. (c.type_inv.hash n).fits)) in
     let held = holds-there (hashes_of t) (get_or (hashes_of h) 0 0) at.ensures (omega arith) in
     let long = le-leb 64 (length h) (omega arith) in
-    rw (c.eq.ensures, c.bytes_of.ensures, c.bytes_of-then-at-count.ensures, same, ← hash-bytes t at.result inside, ← hash-bytes h 0 (omega arith), held, long)
+    let told : pointwise eqb c.bytes_of.result.now c.bytes_of-then-at-count.result.now ≡ leb 64 (length h) && holds (hashes_of t) (get_or (hashes_of h) 0 0) =
+        rw (c.bytes_of.ensures, c.bytes_of-then-at-count.ensures, same, ← hash-bytes t at.result inside, ← hash-bytes h 0 (omega arith), held, long) in
+    cc
