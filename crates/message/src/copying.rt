@@ -1,4 +1,5 @@
-// Numbers put into a lent buffer, where there is room for them.
+// Numbers put into a lent buffer, where there is room for them. The buffer goes with a position, as the C interface lends it
+// (tandawire_filter_write, tandawire_element_write).
 ghost use Rattle.std.specs.Prelude.{◌≡◌, [], ◌∷◌, map, ℕ, ◌+◌, ◌*◌, ◌^◌, ◌≤◌, ◌<◌, length};
 ghost use Rattle.std.proofs.Common.{rules};
 ghost use Rattle.bucket.specs.Digits.{packed};

@@ -1,4 +1,4 @@
-// One message put into a lent buffer, where there is room for it.
+// One message put into a lent buffer, where there is room for it. A filter comes in three columns, which document 01 asks to be lent side by side.
 ghost use Rattle.std.specs.Prelude.{◌≡◌, ◌+◌, ◌*◌, ◌≤◌, length};
 ghost use Rattle.bucket.specs.Columns.{columns};
 ghost use Rattle.bucket.specs.Lists.{over};

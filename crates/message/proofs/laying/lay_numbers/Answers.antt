@@ -17,7 +17,7 @@ of-requires g c = rw (read g c) (field_lt g.T.Number.BYTES _ c.args.s.now)
 
 pub loop-j-preserved : goal.loop-j-preserved
 loop-j-preserved g c = let value = g.T.Number.value in
-    rw map-set
+    rw (map-set value c.loop-j.xs c.loop-j.j c.of.result)
     (numbers-next g.T.Number.BYTES (length c.args.xs.now) c.args.s.now c.requires (map value c.loop-j.xs) (value c.of.result) c.loop-j.invariant (rw length-map c.loop-j.auto.xs) c.loop-j-test.true
     (c.of.ensures ∙ read g (goal.at.loop-j-preserved g c).After-number_at))
 
