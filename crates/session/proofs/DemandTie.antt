@@ -9,7 +9,7 @@ use Rattle.bucket.specs.Digits.{packed}
 use Rattle.bucket.specs.Lists.{elem, over}
 use Rattle.bucket.proofs.ListLaws.{elem_cases}
 use Rattle.filter.specs.declared.answers.Refusal.TheVariants.{OutOfTurn, Breach}
-use Rattle.filter.specs.Answers.{refusal_number, first_of}
+use Rattle.filter.specs.Answers.{number_of, first_of}
 use Rattle.filter.specs.Table.{first_eight, hashes_of}
 use Rattle.message.specs.Layout.{demand}
 use Rattle.message.specs.Writing.{layouts}
@@ -150,10 +150,10 @@ module _ (G : Given) (s : Sound G) (timely : entry G.numbers.state 4 ≡ true) (
       (ap₂ (λ (k m : List ℕ). serve_all first_eight (table_of G) k hs m) (given-demanded G s) (front-marks G s))
       (serve_walk first_eight (table_of G) (take 8192 G.marks) (front-room G s) hs L (given_ordered G s))
 
-  demand-refusal : {b : Bool} → walked.fine ≡ b → refusal_in G (demand hs) ≡ refusal_number (first_of ((Breach, b) ∷ []))
+  demand-refusal : {b : Bool} → walked.fine ≡ b → refusal_in G (demand hs) ≡ number_of (first_of ((Breach, b) ∷ []))
   unfolding refusal tests session_of
   demand-refusal e = λ i.
-      refusal_number (first_of ((OutOfTurn, (admitted_other (session_in G) (demand hs) refl ∙ timely) i) ∷ (Breach, (sym served.fine ∙ e) i) ∷ []))
+      number_of (first_of ((OutOfTurn, (admitted_other (session_in G) (demand hs) refl ∙ timely) i) ∷ (Breach, (sym served.fine ∙ e) i) ∷ []))
 
   abbrev taken : MarkTurn
   taken = mark_turn (changed N N.state N.done N.demanded 0 (length hs)) (over 0 walked.marks G.marks) (over 0 (packed 512 hs) G.out)

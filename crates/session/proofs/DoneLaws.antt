@@ -18,7 +18,7 @@ use Rattle.bucket.specs.Lists.{over, part}
 use Rattle.bucket.proofs.OverLaws.{over-length, part_length}
 use Rattle.bucket.proofs.TestLaws.{test_refused, test_granted}
 use Rattle.filter.specs.declared.answers.Refusal.TheVariants.{OutOfTurn, Checksum}
-use Rattle.filter.specs.Answers.{refusal_number, first_of}
+use Rattle.filter.specs.Answers.{number_of, first_of}
 use Rattle.filter.specs.Table.{first_eight}
 use Rattle.filter.proofs.SetLaws.{and_l, and_r}
 use Rattle.message.specs.Layout.{Content, done}
@@ -62,10 +62,10 @@ module _ (G : Given) (s : Sound G) (timely : entry G.numbers.state 6 ≡ true) (
   is_unmet = is_passive && not (eqb n 0)
 
   done-refusal : {w v k : Bool} → is_early ≡ w → is_unmet ≡ v → eqb (joined 8 far) check ≡ k
-      → refusal_in G said ≡ refusal_number (first_of ((OutOfTurn, true) ∷ (OutOfTurn, not w) ∷ (Checksum, v || k) ∷ []))
+      → refusal_in G said ≡ number_of (first_of ((OutOfTurn, true) ∷ (OutOfTurn, not w) ∷ (Checksum, v || k) ∷ []))
   unfolding refusal tests waits agrees session_of decode
   done-refusal early unmet same = λ i.
-      refusal_number (first_of (
+      number_of (first_of (
       (OutOfTurn, (admitted_other (session_in G) said refl ∙ timely) i)
       ∷ (OutOfTurn, (implies_unless (eqb G.numbers.state ACTIVE) (eqb G.numbers.done 1) ∙ ap not early) i)
       ∷ (Checksum, (ap (λ (b : Bool). is_passive && not b) (sym count) ∙ unmet) i || (ap (eqb (joined 8 far)) (check-given G s) ∙ same) i)

@@ -16,7 +16,7 @@ use borrow.Author.Tests.{eqb-true}
 use Rattle.bucket.specs.Digits.{joined}
 use Rattle.bucket.specs.Lists.{elem, over, part}
 use Rattle.filter.specs.declared.answers.Refusal.TheVariants.{OutOfTurn, Breach, Checksum}
-use Rattle.filter.specs.Answers.{refusal_number, first_of}
+use Rattle.filter.specs.Answers.{number_of, first_of}
 use Rattle.filter.specs.Sets.{implies}
 use Rattle.filter.specs.Table.{first_eight}
 use Rattle.message.specs.Layout.{element, done}
@@ -96,10 +96,10 @@ module _ (G : Given) (s : Sound G) where
   module _ (timely : entry G.numbers.state 5 ≡ true) (bytes : List ℕ) where
     element-refusal : {b k : Bool} → elem (hash_given G) (unmet (ledger_in G)) ≡ b
         → implies (last_one (session_in G) (gained_in G)) (agrees first_eight (table_of G) (session_in G).far (gained_in G)) ≡ k
-        → refusal_in G (element bytes) ≡ refusal_number (first_of ((OutOfTurn, true) ∷ (Breach, b) ∷ (Checksum, k) ∷ []))
+        → refusal_in G (element bytes) ≡ number_of (first_of ((OutOfTurn, true) ∷ (Breach, b) ∷ (Checksum, k) ∷ []))
     unfolding refusal tests session_of
     element-refusal known same = λ i.
-        refusal_number (first_of ((OutOfTurn, (admitted_other (session_in G) (element bytes) refl ∙ timely) i) ∷ (Breach, known i) ∷ (Checksum, same i) ∷ []))
+        number_of (first_of ((OutOfTurn, (admitted_other (session_in G) (element bytes) refl ∙ timely) i) ∷ (Breach, known i) ∷ (Checksum, same i) ∷ []))
 
     -- a hash that was not demanded, or was met
     pub element_unknown : {p : ℕ} {r : Answer} → p ≡ unmet_at G.marks place → 8192 ≤ p → r ≡ aborted 7 G.numbers

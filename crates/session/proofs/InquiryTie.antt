@@ -10,7 +10,7 @@ use lib.ListN.{length, get_or, set, take, length-append}
 use borrow.Author.Tests.{lt-leb}
 use Rattle.bucket.specs.Lists.{elem, over}
 use Rattle.filter.specs.declared.answers.Refusal.TheVariants.{OutOfTurn, Breach}
-use Rattle.filter.specs.Answers.{refusal_number, first_of}
+use Rattle.filter.specs.Answers.{number_of, first_of}
 use Rattle.filter.specs.Table.{first_eight, hashes_of}
 use Rattle.message.specs.Layout.{Content, inquiry}
 use Rattle.message.specs.Writing.{layouts, offers_of}
@@ -209,10 +209,10 @@ module _ (G : Given) (s : Sound G) (timely : entry G.numbers.state 2 ≡ true) (
       (ap₂ (λ (k m : List ℕ). ask_all first_eight (table_of G) k xs m) (given-demanded G s) (front-marks G s))
       (ask_walk first_eight (table_of G) (take 8192 G.marks) (front-room G s) xs L (given_ordered G s) [] (omega arith))
 
-  inquiry-refusal : {a b : Bool} → eqb salt N.salt ≡ a → walked.fine ≡ b → refusal_in G (inquiry salt xs) ≡ refusal_number (first_of ((Breach, a && b) ∷ []))
+  inquiry-refusal : {a b : Bool} → eqb salt N.salt ≡ a → walked.fine ≡ b → refusal_in G (inquiry salt xs) ≡ number_of (first_of ((Breach, a && b) ∷ []))
   unfolding refusal tests session_of
   inquiry-refusal e f = λ i.
-      refusal_number (first_of ((OutOfTurn, (admitted_other (session_in G) (inquiry salt xs) refl ∙ timely) i) ∷ (Breach, e i && (sym asked.fine ∙ f) i) ∷ []))
+      number_of (first_of ((OutOfTurn, (admitted_other (session_in G) (inquiry salt xs) refl ∙ timely) i) ∷ (Breach, e i && (sym asked.fine ∙ f) i) ∷ []))
 
   -- the turn of a good INQUIRY, of the hashes it offers
   abbrev taken : List ℕ → MarkTurn

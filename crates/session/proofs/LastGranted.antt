@@ -13,7 +13,7 @@ use Rattle.bucket.specs.Digits.{unpacked}
 use Rattle.bucket.specs.Lists.{part}
 use Rattle.bucket.specs.Packing.{counters_at}
 use Rattle.bucket.proofs.TestLaws.{and_holds}
-use Rattle.filter.specs.declared.answers.Refusal.TheVariants.{None}
+use Rattle.std.specs.Prelude.{None}
 use Rattle.filter.specs.Calls.{in_range, are_counts, has_room, read_refusal}
 use Rattle.filter.specs.Sets.{implies}
 use Rattle.filter.specs.Table.{first_eight, is_table}

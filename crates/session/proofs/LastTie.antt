@@ -10,9 +10,10 @@ use lib.ListN.{length, length-append, length-map}
 use lib.Seq.{length-take-le}
 use Rattle.bucket.specs.Bucket.{𝟎}
 use Rattle.bucket.specs.Lists.{over}
+use Rattle.std.specs.Prelude.{Option, None, Some}
 use Rattle.filter.specs.declared.answers.Refusal.{Refusal}
-use Rattle.filter.specs.declared.answers.Refusal.TheVariants.{None, Malformed, OutOfTurn, FalseReading, Swaps, Limit}
-use Rattle.filter.specs.Answers.{refusal_number, first_of}
+use Rattle.filter.specs.declared.answers.Refusal.TheVariants.{Malformed, OutOfTurn, FalseReading, Swaps, Limit}
+use Rattle.filter.specs.Answers.{number_of, first_of}
 use Rattle.filter.specs.Calls.{Read, filled, listed_into}
 use Rattle.filter.specs.Table.{first_eight}
 use Rattle.message.specs.declared.kinds.Slice.{Slice}
@@ -59,27 +60,27 @@ module _ (t : List ℕ) (table : Table first_eight t) (size swaps : ℕ) (r : Re
       ∙ length-append (ids_of first_eight t) (theirs_in r)
       ∙ ap₂ ◌+◌ (length-map t first_eight) theirs-count
 
-  fate_is : refusal_number (read_fault true t swaps r) ≡ fate_of r.answer (length t) swaps
+  fate_is : number_of (read_fault true t swaps r) ≡ fate_of r.answer (length t) swaps
   unfolding fate_of too_many
   fate_is = go (is_complete r) refl
     where
-      refused_if : (b : Bool) (x y : Refusal) → refusal_number (cond (not b) x y) ≡ cond b (refusal_number y) (refusal_number x)
+      refused_if : (b : Bool) (x y : Option Refusal) → number_of (cond (not b) x y) ≡ cond b (number_of y) (number_of x)
       refused_if true x y = refl
       refused_if false x y = refl
 
-      falsely : Refusal
+      falsely : Option Refusal
       falsely = first_of ((FalseReading, not (is_false r)) ∷ [])
 
       go : (b : Bool) → is_complete r ≡ b
-          → refusal_number (first_of ((Limit, not (b && ltb 4096 (count (ids_of first_eight t ++ theirs_in r)))) ∷ (Swaps, b || ltb swaps 16) ∷ (FalseReading, not (is_false r)) ∷ []))
+          → number_of (first_of ((Limit, not (b && ltb 4096 (count (ids_of first_eight t ++ theirs_in r)))) ∷ (Swaps, b || ltb swaps 16) ∷ (FalseReading, not (is_false r)) ∷ []))
           ≡ cond b (cond (ltb 4096 (length t + r.answer.theirs)) 10 0) (cond (leb 16 swaps) 9 r.answer.refusal)
       go true e =
-          (λ i. refusal_number (cond (not (ltb 4096 (held-count e i))) (first_of ((FalseReading, not (eqb (k.clean e i) 6)) ∷ [])) Limit))
-          ∙ refused_if (ltb 4096 (length t + r.answer.theirs)) None Limit
+          (λ i. number_of (cond (not (ltb 4096 (held-count e i))) (first_of ((FalseReading, not (eqb (k.clean e i) 6)) ∷ [])) (Some Limit)))
+          ∙ refused_if (ltb 4096 (length t + r.answer.theirs)) None (Some Limit)
       go false e =
-          ap (λ (b : Bool). refusal_number (cond b falsely Swaps)) (sym (not-not (ltb swaps 16)) ∙ ap not (sym (leb_not_ltb 16 swaps)))
-          ∙ refused_if (leb 16 swaps) falsely Swaps
-          ∙ ap (cond (leb 16 swaps) 9) (refused_if (is_false r) None FalseReading ∙ k.lists.refuses)
+          ap (λ (b : Bool). number_of (cond b falsely (Some Swaps))) (sym (not-not (ltb swaps 16)) ∙ ap not (sym (leb_not_ltb 16 swaps)))
+          ∙ refused_if (leb 16 swaps) falsely (Some Swaps)
+          ∙ ap (cond (leb 16 swaps) 9) (refused_if (is_false r) None (Some FalseReading) ∙ k.lists.refuses)
 
 -- ---- what follows a reading
 
@@ -149,7 +150,7 @@ module _ (G : Given) (s : Sound G) (empty : (session_in G).ledger ≡ no_ledger)
   abbrev turn_by : Bool → ℕ → LastTurn
   turn_by b f = cond (clears f) (wipes f) (cond b opens (swaps f))
 
-  read_tie : refusal_in G c ≡ refusal_number (read_fault true (table_of G) G.numbers.swaps r)
+  read_tie : refusal_in G c ≡ number_of (read_fault true (table_of G) G.numbers.swaps r)
       → leaves (read_turn G.numbers G.table size salt r G.marks G.inquired G.out) ≡ step_on first_eight c G
   unfolding read_turn fate_of
   read_tie e =
@@ -207,7 +208,7 @@ module _ (G : Given) (s : Sound G) (t : Slice) (ids hashes counts : List ℕ) (g
       go (admits_slice G.numbers 1) refl (is_placed G.numbers t.size t.offset t.salt t.width) (slice-refusal G t.size t.offset t.salt t.width ids hashes counts true e)
     where
       go : (a : Bool) → admits_slice G.numbers 1 ≡ a → (p : Bool)
-          → refusal_in G c ≡ refusal_number (cond a (cond p (read_fault true (table_of G) G.numbers.swaps read) Malformed) OutOfTurn)
+          → refusal_in G c ≡ number_of (cond a (cond p (read_fault true (table_of G) G.numbers.swaps read) (Some Malformed)) (Some OutOfTurn))
           → let x = cond a
           (cond p (read_turn G.numbers G.table t.size t.salt read G.marks G.inquired G.out)
           (last_turn' (aborted 4 G.numbers) G.marks G.inquired (untouched G.columns G.ours G.theirs) G.out))

@@ -10,7 +10,9 @@ use Rattle.std.proofs.Common.{Option, Some}
 use Rattle.bucket.specs.Columns.{Columns}
 use Rattle.bucket.proofs.TestLaws.{and_holds}
 use Rattle.filter.specs.declared.answers.Refusal.{Refusal}
-use Rattle.filter.specs.declared.answers.Refusal.TheVariants.{None}
+use Rattle.std.specs.Prelude.{Option, None, Result, Ok, Err, IsOk}
+use Rattle.std.specs.Result.{result_err}
+use Rattle.std.proofs.Common.{rules}
 use Rattle.filter.specs.Calls.{has_room}
 use Rattle.filter.specs.Steps.{Wide}
 use Rattle.filter.proofs.FilledLaws.{wide_of}
@@ -58,8 +60,15 @@ lays message m c l =
     ap (λ (x : Option Message). lay_read x message c) l.read ∙ rw (room, l.slice)
 
 -- a call of it that is given a slice and room
-pub laid_by : {message : List ℕ} {m : Message} {c d : Columns} {r : Refusal} → Lays message m c → lay r d ≡ lay_call message c → d ≡ laid (content m message) c
+pub laid_by : {message : List ℕ} {m : Message} {c d : Columns} {r : Option Refusal} → Lays message m c → lay r d ≡ lay_call message c → d ≡ laid (content m message) c
 laid_by {message} {m} {c} l e = ap (λ (y : Lay). y.columns) (e ∙ lays message m c l)
+
+pub not_refused : (r : Result Unit Refusal) → result_err r ≡ None → IsOk r
+not_refused (Ok x) e = search rules
+not_refused (Err y) e = cc
+
+pub lay_goes : {message : List ℕ} {m : Message} {c d : Columns} (r : Result Unit Refusal) → Lays message m c → lay (result_err r) d ≡ lay_call message c → IsOk r
+lay_goes {message} {m} {c} r l e = not_refused r (ap (λ (y : Lay). y.refusal) (e ∙ lays message m c l))
 
 -- ---- a slice that is not the last
 

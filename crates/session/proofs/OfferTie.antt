@@ -8,7 +8,7 @@ use lib.Dec.{ltb, leb}
 use lib.ListN.{length, take}
 use Rattle.bucket.specs.Lists.{elem, over}
 use Rattle.filter.specs.declared.answers.Refusal.TheVariants.{OutOfTurn, Breach, Limit}
-use Rattle.filter.specs.Answers.{refusal_number, first_of}
+use Rattle.filter.specs.Answers.{number_of, first_of}
 use Rattle.filter.specs.Lists.{ascending}
 use Rattle.filter.specs.Sets.{all, once, count, implies}
 use Rattle.filter.specs.Table.{first_eight, hashes_of}
@@ -50,10 +50,10 @@ module _ (G : Given) (s : Sound G) (timely : entry G.numbers.state 3 ≡ true) (
 
   -- ---- what the session says
 
-  offer-refusal : {a b : Bool} → right ≡ a → fits ≡ b → refusal_in G (offer hs) ≡ refusal_number (first_of ((Breach, a) ∷ (Limit, b) ∷ []))
+  offer-refusal : {a b : Bool} → right ≡ a → fits ≡ b → refusal_in G (offer hs) ≡ number_of (first_of ((Breach, a) ∷ (Limit, b) ∷ []))
   unfolding refusal tests session_of
   offer-refusal e f = λ i.
-      refusal_number (first_of ((OutOfTurn, (admitted_other (session_in G) (offer hs) refl ∙ timely) i) ∷ (Breach, e i) ∷ (Limit, f i) ∷ []))
+      number_of (first_of ((OutOfTurn, (admitted_other (session_in G) (offer hs) refl ∙ timely) i) ∷ (Breach, e i) ∷ (Limit, f i) ∷ []))
 
   -- ---- what the turn computes
 

@@ -9,7 +9,7 @@ use lib.ListN.{length, length-append, length-reverse}
 use lib.Seq.{length-take-le}
 use Rattle.bucket.specs.Columns.{Columns}
 use Rattle.bucket.specs.Lists.{over, pad}
-use Rattle.filter.specs.declared.answers.Refusal.TheVariants.{None}
+use Rattle.std.specs.Prelude.{None}
 use Rattle.filter.specs.declared.answers.Verdict.{Verdict}
 use Rattle.filter.specs.declared.answers.Verdict.TheVariants.{Complete, Stuck, False}
 use Rattle.filter.specs.Calls.{Read, listed_into, read_refusal, read_with, subtracted, outcome_of, verdict_of, looked_of, read_call}

@@ -8,9 +8,10 @@ use lib.Dec.{eqb, ltb, leb}
 use lib.ListN.{length}
 use Rattle.bucket.specs.Digits.{packed}
 use Rattle.bucket.specs.Lists.{over}
+use Rattle.std.specs.Prelude.{Option, Some}
 use Rattle.filter.specs.declared.answers.Refusal.{Refusal}
 use Rattle.filter.specs.declared.answers.Refusal.TheVariants.{Malformed, OutOfTurn, FalseReading, Swaps, Limit}
-use Rattle.filter.specs.Answers.{refusal_number, first_of}
+use Rattle.filter.specs.Answers.{number_of, first_of}
 use Rattle.filter.specs.Sets.{implies}
 use Rattle.filter.specs.Table.{first_eight}
 use Rattle.filter.specs.Calls.{Read}
@@ -35,7 +36,7 @@ and_middle true b = refl
 and_middle false b = refl
 
 -- the refusal of a reading, where the slice is the last
-abbrev pub read_fault : Bool → List ℕ → ℕ → Read → Refusal
+abbrev pub read_fault : Bool → List ℕ → ℕ → Read → Option Refusal
 read_fault last t swaps r =
     first_of (
     (Limit, implies last (not (too_many first_eight t r)))
@@ -56,11 +57,11 @@ module _ (G : Given) (size offset salt width : ℕ) (ids hashes counts : List �
 
   pub slice-refusal :
       refusal_in G (slice size offset salt width ids hashes counts)
-      ≡ refusal_number (cond (admits_slice G.numbers (cond last 1 0))
-      (cond (is_placed G.numbers size offset salt width) (read_fault last (table_of G) G.numbers.swaps read) Malformed) OutOfTurn)
+      ≡ number_of (cond (admits_slice G.numbers (cond last 1 0))
+      (cond (is_placed G.numbers size offset salt width) (read_fault last (table_of G) G.numbers.swaps read) (Some Malformed)) (Some OutOfTurn))
   unfolding refusal tests placed is_placed session_of
   slice-refusal = λ i.
-      refusal_number (cond (admits_is i) (cond (is_placed G.numbers size offset salt width) (read_fault (e i) (table_of G) G.numbers.swaps read) Malformed) OutOfTurn)
+      number_of (cond (admits_is i) (cond (is_placed G.numbers size offset salt width) (read_fault (e i) (table_of G) G.numbers.swaps read) (Some Malformed)) (Some OutOfTurn))
 
 -- ---- a step that leaves the ledger as it is
 

@@ -4,8 +4,9 @@ use mathlib.Core.Bool.{Bool, true, false, cond}
 use mathlib.Core.List.{List, []}
 use Prim.Native.Nat.{ℕ}
 use Rattle.bucket.proofs.OverLaws.{over-nil}
-use Rattle.filter.specs.declared.answers.Refusal.TheVariants.{None, Malformed, OutOfTurn}
-use Rattle.filter.specs.Answers.{refusal_number}
+use Rattle.std.specs.Prelude.{None, Some}
+use Rattle.filter.specs.declared.answers.Refusal.TheVariants.{Malformed, OutOfTurn}
+use Rattle.filter.specs.Answers.{number_of}
 use Rattle.filter.specs.Table.{first_eight}
 use Rattle.message.specs.declared.kinds.Slice.{Slice}
 use Rattle.message.specs.Laying.{laid}
@@ -44,7 +45,7 @@ module _ (G : Given) (s : Sound G) (t : Slice) (ids hashes counts : List ℕ) (e
   slice_tie =
       go (admits_slice G.numbers 0) (is_placed G.numbers t.size t.offset t.salt t.width) (slice-refusal G t.size t.offset t.salt t.width ids hashes counts false e)
     where
-      go : (a p : Bool) → refusal_in G c ≡ refusal_number (cond a (cond p None Malformed) OutOfTurn)
+      go : (a p : Bool) → refusal_in G c ≡ number_of (cond a (cond p None (Some Malformed)) (Some OutOfTurn))
           → let x = cond a
           (cond p (slice_turn' (answered 0 0 0 (sliced_numbers G.numbers t.size t.salt t.width)) (laid c G.columns)) (slice_turn' (aborted 4 G.numbers) G.columns))
           (slice_turn' (aborted 5 G.numbers) G.columns) in

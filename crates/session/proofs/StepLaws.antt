@@ -10,7 +10,7 @@ use Rattle.std.specs.Option.{is_some}
 use Rattle.bucket.specs.Digits.{Below}
 use Rattle.filter.specs.declared.answers.Refusal.{Refusal}
 use Rattle.filter.specs.declared.answers.Refusal.TheVariants.{Form, Room, OutOfTurn}
-use Rattle.filter.specs.Answers.{refusal_number, first_of}
+use Rattle.filter.specs.Answers.{number_of, first_of}
 use Rattle.filter.specs.Calls.{has_room}
 use Rattle.filter.specs.Table.{first_eight}
 use Rattle.message.specs.Walking.{exactly_one}
@@ -42,10 +42,10 @@ module _ (G : Given) where
       (length G.ours) (length G.theirs) (length G.hash) (length G.out))
       G.numbers.state
 
-  early_tie : early_in ≡ refusal_number (early first_eight G)
+  early_tie : early_in ≡ number_of (early first_eight G)
   unfolding early_of early has_rooms has_ledger_room rooms_of has_room
   early_tie =
-      ap (λ (b : Bool). refusal_number (first_of ((Form, b) ∷ (Room, has_rooms G) ∷ (OutOfTurn, not (is_ended G.numbers.state)) ∷ []))) (judged-form G)
+      ap (λ (b : Bool). number_of (first_of ((Form, b) ∷ (Room, has_rooms G) ∷ (OutOfTurn, not (is_ended G.numbers.state)) ∷ []))) (judged-form G)
 
   -- nothing is changed
   pub early-refused : {n : ℕ} → n ≡ early_in → eqb n 0 ≡ false

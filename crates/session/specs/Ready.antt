@@ -1,10 +1,12 @@
 -- What private functions may count on, as statements: cited by their contracts alone.
-use Rattle.std.specs.Prelude.{◌≡◌, Bool, true, false, cond, Option, None, Some, List, ℕ, ◌+◌, ◌-◌, ◌*◌, ◌≤◌, ◌<◌, eqb, ltb, length}
+use Rattle.std.specs.Prelude.{◌≡◌, Bool, true, false, cond, Option, None, Some, Result, Ok, Err, is_err, List, ℕ, ◌+◌, ◌-◌, ◌*◌, ◌≤◌, ◌<◌, eqb, ltb, length}
 use Rattle.std.specs.Int.Bits.{bit_xor}
 use Rattle.bucket.specs.Digits.{joined, packed, Below}
 use Rattle.bucket.specs.Lists.{over}
 use Rattle.bucket.specs.Columns.{Columns}
 use Rattle.filter.specs.declared.answers.ReadAnswer.{ReadAnswer}
+use Rattle.filter.specs.declared.answers.Refusal.{Refusal}
+use Rattle.filter.specs.Answers.{refusal_number, number_of}
 use Rattle.filter.specs.Calls.{Read, in_range, has_room, read_refusal}
 use Rattle.filter.specs.Table.{first_eight, hashes_of, ids_of, is_table}
 use Rattle.message.specs.declared.kinds.Message.{Message}
@@ -107,14 +109,13 @@ pub record Reads (N : Numbers) (table message : List ℕ) (s : Slice) (c : Colum
   pub inquired-room : 4096 ≤ length inquired
   pub out-room : 295008 ≤ length out
 
--- how a reading's end is told
-abbrev pub fated : ℕ → Bool → ℕ → ℕ → Fate
-fated refusal complete ours theirs = record { refusal = refusal; complete = complete; ours = ours; theirs = theirs }
-
-abbrev pub Fated : ReadAnswer → ℕ → ℕ → Fate → Type 0
-Fated a nt swaps f = f ≡ fated (fate_of a nt swaps) (eqb a.complete 1) a.ours a.theirs
+-- how a reading's end is told: its refusal 9 or 10, or what follows
+abbrev pub Fated : ReadAnswer → ℕ → ℕ → Result Fate Refusal → Type 0
+Fated a nt swaps (Err r) = (fate_of a nt swaps ≡ refusal_number r) × (clears (refusal_number r) ≡ true)
+Fated a nt swaps (Ok (Fate.Opens ours theirs)) = (fate_of a nt swaps ≡ 0) × (eqb a.complete 1 ≡ true) × (ours ≡ a.ours) × (theirs ≡ a.theirs)
+Fated a nt swaps (Ok (Fate.Swaps beside)) = (fate_of a nt swaps ≡ number_of beside) × (clears (number_of beside) ≡ false) × (eqb a.complete 1 ≡ false)
 
 -- what a reading was told as, and what it leaves: nothing where the session may not go on
-pub record Ended (r : Read) (table : List ℕ) (size swaps : ℕ) (f : Fate) (after : Read) : Type 0 where
+pub record Ended (r : Read) (table : List ℕ) (size swaps : ℕ) (f : Result Fate Refusal) (after : Read) : Type 0 where
   pub told : Fated r.answer (length (hashes_of table)) swaps f
-  pub leaves : after ≡ cond (clears f.refusal) (wiped size r) (kept r)
+  pub leaves : after ≡ cond (is_err f) (wiped size r) (kept r)

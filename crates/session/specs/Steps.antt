@@ -11,7 +11,9 @@ use Rattle.filter.specs.Sets.{is_nil}
 use Rattle.filter.specs.Table.{first_eight, hashes_of}
 use Rattle.message.specs.declared.kinds.Message.{Message}
 use Rattle.message.specs.declared.kinds.Message.TheVariants.{Ibf, IbfLast, Inquiry, Offer, Demand, Element, Done}
+use Rattle.message.specs.Kinds.{kind_of}
 use Rattle.message.specs.Layout.{element, done}
+use Rattle.form.specs.Grid.{column}
 use Rattle.ledger.specs.declared.numbers.Numbers.{Numbers}
 use Rattle.ledger.specs.declared.numbers.Answer.{Answer}
 use Rattle.ledger.specs.Grid.{ACTIVE, entry}
@@ -26,13 +28,7 @@ use Rattle.session.specs.Moves.{place_of_hash}
 
 -- the grid's column of a message
 abbrev pub column_of : Message → ℕ
-column_of (Ibf s) = 0
-column_of (IbfLast s) = 1
-column_of (Inquiry salt n) = 2
-column_of (Offer n) = 3
-column_of (Demand n) = 4
-column_of (Element n) = 5
-column_of Done = 6
+column_of m = column (kind_of m)
 
 -- ---- DONE
 

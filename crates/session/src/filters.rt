@@ -1,31 +1,28 @@
 // IBF and IBF LAST: slices laid, a whole filter read, and what follows from how the reading ended.
-ghost use Rattle.std.specs.Prelude.{◌≡◌, true, false, cond, ◌++◌, ◌+◌, ◌≤◌, ◌<◌, ltb, leb, length, take};
+ghost use Rattle.std.specs.Prelude.{◌≡◌, ◌++◌, ◌≤◌, ◌<◌, length, take};
 ghost use Rattle.bucket.specs.Columns.{columns};
 ghost use Rattle.bucket.specs.Digits.{packed};
 ghost use Rattle.bucket.specs.Lists.{over};
-ghost use Rattle.filter.specs.declared.answers.Refusal.TheVariants.{Swaps, Limit};
-ghost use Rattle.filter.specs.Answers.{refusal_number, answer_of};
+ghost use Rattle.filter.specs.Answers.{answer_of};
 ghost use Rattle.filter.specs.Table.{first_eight, hashes_of, ids_of};
 ghost use Rattle.message.specs.declared.kinds.Message.TheVariants.{Ibf, IbfLast};
 ghost use Rattle.message.specs.Reading.{content};
 ghost use Rattle.message.specs.Writing.{inquiries_of, offers_of};
 ghost use Rattle.session.specs.Moves.{inserted_all};
-ghost use Rattle.session.specs.Ready.{Opens, Sent, Reads, Lays, Whole, Ended, fated, Fated};
+ghost use Rattle.session.specs.Ready.{Opens, Sent, Reads, Lays, Whole, Ended, Fated};
 ghost use Rattle.session.specs.Turns.{mark_all, hashes_at, open_turn, open_turn', slice_turn, slice_turn', last_turn, last_turn', untouched, whole_read};
 
-use filter::answers::Reading;
-use ledger::numbers::{
-    Answer, FALSE_READING, FORM, LIMIT, MALFORMED, Numbers, OUT_OF_TURN, RANGE, ROOM, SWAPS,
-};
+use filter::answers::{Reading, Refusal, Unread};
+use ledger::numbers::{Answer, MALFORMED, Numbers, OUT_OF_TURN};
 use message::kinds::Slice;
 
-// How a reading ended, in numbers: what it refuses or 0, 9 and 10 among it; whether it is complete; and the lengths of the lists.
-#[derive(Drop)]
-pub(crate) struct Fate {
-    pub(crate) refusal: u32,
-    pub(crate) complete: bool,
-    pub(crate) ours: usize,
-    pub(crate) theirs: usize,
+// What follows a reading after which the session goes on.
+#[derive(Clone, Copy)]
+pub(crate) enum Fate {
+    // it is complete, with the lengths of the two lists: the session opens
+    Opens { ours: usize, theirs: usize },
+    // it is not: the sides swap, and what refused the reading is answered beside
+    Swaps { beside: Option<Refusal> },
 }
 
 // A slice that is not the last.
@@ -47,7 +44,7 @@ pub(crate) fn on_slice(
     if !form::grid::is_placed(numbers, slice.size, slice.offset, slice.salt, slice.width) {
         return form::numbers::aborted(MALFORMED, numbers);
     }
-    message::laying::lay(message, ids, hashes, counts);
+    message::laying::lay(message, ids, hashes, counts).unwrap();
     let next = form::numbers::sliced(numbers, slice.size, slice.salt, slice.width);
     form::numbers::answered(0, 0, next)
 }
@@ -78,7 +75,7 @@ pub(crate) fn on_last(
     if !form::grid::is_placed(numbers, size, slice.offset, salt, slice.width) {
         return form::numbers::aborted(MALFORMED, numbers);
     }
-    let f = read_whole(
+    match read_whole(
         numbers.swaps,
         table,
         ids,
@@ -88,30 +85,25 @@ pub(crate) fn on_last(
         theirs,
         message,
         slice,
-    );
-    if (f.refusal == SWAPS) | (f.refusal == LIMIT) {
-        return form::numbers::aborted(f.refusal, numbers);
-    }
-    if f.complete {
-        return open(
-            numbers,
-            table,
-            marks,
-            inquired,
-            &ours[..f.ours],
-            &theirs[..f.theirs],
-            out,
-            size,
-            salt,
-        );
-    }
-    let next = crate::swapping::swapped(numbers, size, salt);
-    let sent = form::sending::send_filter(table, next.size, next.salt, out);
-    Answer {
-        refusal: f.refusal,
-        sent: sent,
-        due: 0,
-        next: next,
+    ) {
+        Err(why) => form::numbers::aborted(u32::from(why), numbers),
+        Ok(Fate::Opens { ours: a, theirs: b }) => {
+            let ours = &ours[..a];
+            let theirs = &theirs[..b];
+            open(
+                numbers, table, marks, inquired, ours, theirs, out, size, salt,
+            )
+        }
+        Ok(Fate::Swaps { beside }) => {
+            let next = crate::swapping::swapped(numbers, size, salt);
+            let sent = form::sending::send_filter(table, next.size, next.salt, out).unwrap();
+            Answer {
+                refusal: beside.map_or(0, u32::from),
+                sent,
+                due: 0,
+                next,
+            }
+        }
     }
 }
 
@@ -126,73 +118,42 @@ fn read_whole(
     theirs: &mut [u64],
     message: &[u8],
     slice: Slice,
-) -> Fate
+) -> Result<Fate, Refusal>
     requires { Whole table.now message.now slice (columns ids.old hashes.old counts.old) ours.old theirs.old }
     ensures { Ended (whole_read table.now message.now slice (columns ids.old hashes.old counts.old) ours.old theirs.old) table.now slice.size swaps result
         (untouched (columns ids.new hashes.new counts.new) ours.new theirs.new) }
 {
-    message::laying::lay(message, ids, hashes, counts);
+    message::laying::lay(message, ids, hashes, counts).unwrap();
     let Slice { size, salt, .. } = slice;
-    let r = filter::reading::read(table, ids, hashes, counts, ours, theirs, size, salt);
-    let f = fate_of(r, filter::table::count(table), swaps);
-    if (f.refusal == SWAPS) | (f.refusal == LIMIT) {
-        filter::reading::clear(ids, hashes, counts, ours, theirs, size);
-        return f;
+    let reading = filter::reading::read(table, ids, hashes, counts, ours, theirs, size, salt);
+    let fate = fate_of(reading, filter::table::count(table), swaps);
+    if fate.is_err() {
+        filter::reading::clear(ids, hashes, counts, ours, theirs, size).unwrap();
     }
-    f
+    fate
 }
 
-// By how a reading ended: its refusal, or 10 or 9 where it may not go on.
-fn fate_of(r: Reading, nt: usize, swaps: u32) -> Fate
+// By how a reading ended: what follows, or 10 or 9 where the session may not go on.
+#[tactic(auto, unfolding(crate::specs::Turns::fate_of))]
+fn fate_of(reading: Result<Reading, Unread>, nt: usize, swaps: u32) -> Result<Fate, Refusal>
     requires { nt ≤ 4096 }
-    ensures { Fated (answer_of r) nt swaps result }
+    ensures { Fated (answer_of reading) nt swaps result }
 {
-    match r {
-        Reading::Complete { ours, theirs, .. } => came(nt, ours, theirs),
-        Reading::Stuck { ours, theirs, .. } => failed(0, ours, theirs, swaps),
-        Reading::BadForm => failed(FORM, 0, 0, swaps),
-        Reading::BadRange => failed(RANGE, 0, 0, swaps),
-        Reading::NoRoom => failed(ROOM, 0, 0, swaps),
-        Reading::Untrue { .. } => failed(FALSE_READING, 0, 0, swaps),
-    }
-}
-
-fn came(nt: usize, ours: usize, theirs: usize) -> Fate
-    requires { nt ≤ 4096 }
-    ensures { result ≡ fated (cond (ltb 4096 (nt + theirs)) (refusal_number Limit) 0) true ours theirs }
-{
-    if 4096 - nt < theirs {
-        return Fate {
-            refusal: LIMIT,
-            complete: true,
-            ours: ours,
-            theirs: theirs,
-        };
-    }
-    Fate {
-        refusal: 0,
-        complete: true,
-        ours: ours,
-        theirs: theirs,
-    }
-}
-
-fn failed(refusal: u32, ours: usize, theirs: usize, swaps: u32) -> Fate
-    ensures { result ≡ fated (cond (leb 16 swaps) (refusal_number Swaps) refusal) false ours theirs }
-{
-    if 16 <= swaps {
-        return Fate {
-            refusal: SWAPS,
-            complete: false,
-            ours: ours,
-            theirs: theirs,
-        };
-    }
-    Fate {
-        refusal: refusal,
-        complete: false,
-        ours: ours,
-        theirs: theirs,
+    match reading {
+        Ok(found) if found.complete => {
+            if 4096 - nt < found.theirs {
+                return Err(Refusal::Limit);
+            }
+            Ok(Fate::Opens {
+                ours: found.ours,
+                theirs: found.theirs,
+            })
+        }
+        _ if 16 <= swaps => Err(Refusal::Swaps),
+        Ok(_) => Ok(Fate::Swaps { beside: None }),
+        Err(unread) => Ok(Fate::Swaps {
+            beside: Some(Refusal::from(unread)),
+        }),
     }
 }
 

@@ -1,19 +1,25 @@
 -- `filters::on_last` meets its contract: a slice that the grid admits and that is placed is read, and what follows is the turn's. Assumes nothing.
-use mathlib.Core.Path.{◌≡◌, sym, subst}
-use mathlib.Core.Bool.{true}
+use mathlib.Core.Path.{◌≡◌, sym, subst, ap, ◌∙◌}
+use mathlib.Core.Bool.{true, not}
+use native.Mathlib.Nat.{zero-add}
 use native.Mathlib.Omega.{arith}
 use Rattle.bucket.proofs.TestLaws.{test_refused, test_granted}
+use Rattle.filter.specs.Answers.{number_of}
 use Rattle.filter.specs.Calls.{in_range}
+use Rattle.std.proofs.Common.{rules}
+use Rattle.filter.specs.Table.{first_eight, ids_of}
 use Rattle.filter.proofs.PartLaws.{range-sound}
-use Rattle.ledger.proofs.FilterRoomLaws.{next_in_range}
-use Rattle.form.proofs.SendingLaws.{own_filter_there}
+use Rattle.message.specs.Writing.{write}
 use Rattle.ledger.specs.declared.numbers.Numbers.{Numbers}
+use Rattle.ledger.specs.Session.{own_filter}
+use Rattle.ledger.proofs.FilterRoomLaws.{next_in_range}
+use Rattle.ledger.proofs.SendLaws.{written, not_refused, sent_to}
+use Rattle.form.specs.Answers.{aborted, admits_slice, is_placed}
+use Rattle.form.proofs.SendingLaws.{own_filter_there}
 use Rattle.session.proofs.LastTurns.{last_untimely, last_misplaced, last_whole, last_stops, opens_ready, last_opens, swaps_ready, last_swaps}
-use Rattle.std.proofs.Common.{ap}
-use mathlib.Core.Bool.{not}
-use lib.ListN.{length-take}
 use lib.Seq.{length-take-le}
 use Rattle.session.proofs.filters.on_last.Goals as goal
+use Rattle.session.proofs.filters.on_last.Goals.{Else-not-is_placed, After-send_filter}
 
 pub returns-then-not-admits_slice : goal.returns-then-not-admits_slice
 returns-then-not-admits_slice c = last_untimely c.requires (test_refused c.admits_slice.ensures (ap not c.if-not-admits_slice.true)) c.aborted.ensures
@@ -21,101 +27,68 @@ returns-then-not-admits_slice c = last_untimely c.requires (test_refused c.admit
 pub returns-then-not-is_placed : goal.returns-then-not-is_placed
 returns-then-not-is_placed c = last_misplaced c.requires (test_granted c.admits_slice.ensures (ap not c.if-not-admits_slice.false)) (test_refused c.is_placed.ensures (ap not c.if-not-is_placed.true)) c.aborted-then-not-is_placed.ensures
 
-pub read_whole-f-requires : goal.read_whole-f-requires
-read_whole-f-requires c = last_whole c.requires (test_granted c.is_placed.ensures (ap not c.if-not-is_placed.false))
+pub read_whole-requires : goal.read_whole-requires
+read_whole-requires c = last_whole c.requires (test_granted c.is_placed.ensures (ap not c.if-not-is_placed.false))
 
-pub shape_of-ids-then-f : goal.shape_of-ids-then-f
-shape_of-ids-then-f c = c.read_whole-f.auto.ids
+-- behind both tests
+timely : (c : Else-not-is_placed) → let a = c.args in (admits_slice a.numbers 1 ≡ true) × (is_placed a.numbers a.slice.size a.slice.offset a.slice.salt a.slice.width ≡ true)
+timely c = (test_granted c.admits_slice.ensures (ap not c.if-not-admits_slice.false), test_granted c.is_placed.ensures (ap not c.if-not-is_placed.false))
 
-pub shape_of-hashes-then-f : goal.shape_of-hashes-then-f
-shape_of-hashes-then-f c = c.read_whole-f.auto.hashes
+pub returns-in-Err : goal.returns-in-Err
+returns-in-Err c = let t = timely (goal.at.returns-in-Err c).Else-not-is_placed in
+    last_stops c.requires c.in-Err.ensures t.0 t.1 (c.aborted-in-Err.ensures ∙ ap (λ n. aborted n c.args.numbers) c.from.ensures)
 
-pub shape_of-counts-then-f : goal.shape_of-counts-then-f
-shape_of-counts-then-f c = c.read_whole-f.auto.counts
+-- the lists are as long as the reading says
+pub slice_bounds-ours-end : goal.slice_bounds-ours-end
+slice_bounds-ours-end c = (opens_ready c.requires (rw c.in-Ok-Opens.field-0-is at c.in-Ok-Opens.ensures)).1
 
-pub shape_of-ours-then-f : goal.shape_of-ours-then-f
-shape_of-ours-then-f c = c.read_whole-f.auto.ours
+pub slice_bounds-theirs-end : goal.slice_bounds-theirs-end
+slice_bounds-theirs-end c = (opens_ready c.requires (rw c.in-Ok-Opens.field-0-is at c.in-Ok-Opens.ensures)).2
 
-pub shape_of-theirs-then-f : goal.shape_of-theirs-then-f
-shape_of-theirs-then-f c = c.read_whole-f.auto.theirs
+pub slice_bounds-ours-end-in-Ok-Opens : goal.slice_bounds-ours-end-in-Ok-Opens
+slice_bounds-ours-end-in-Ok-Opens c = sym (length-take-le _ _ (opens_ready c.requires (rw c.in-Ok-Opens.field-0-is at c.in-Ok-Opens.ensures)).1)
 
-pub returns-then-f : goal.returns-then-f
-returns-then-f c = last_stops c.requires c.read_whole-f.ensures (test_granted c.admits_slice.ensures (ap not c.if-not-admits_slice.false)) (test_granted c.is_placed.ensures (ap not c.if-not-is_placed.false))
-    c.if-f.true c.aborted-then-f.ensures
+pub slice_bounds-theirs-end-in-Ok-Opens : goal.slice_bounds-theirs-end-in-Ok-Opens
+slice_bounds-theirs-end-in-Ok-Opens c = sym (length-take-le _ _ (opens_ready c.requires (rw c.in-Ok-Opens.field-0-is at c.in-Ok-Opens.ensures)).2)
 
 pub open-requires : goal.open-requires
-open-requires c = let (opens, _, _, ours, theirs, salt, inquired, out) = opens_ready c.requires c.read_whole-f.ensures c.if-f.false c.if-f-2.true in
-    let f = c.read_whole-f in
-    (opens, omega (arith, ours, length-take f.result.ours f.new.ours), omega (arith, theirs, length-take f.result.theirs f.new.theirs), salt, inquired, out)
+open-requires c =
+    let o = opens_ready c.requires (rw c.in-Ok-Opens.field-0-is at c.in-Ok-Opens.ensures) in (
+      o.0,
+      omega (arith, o.3, length-take-le _ _ o.1),
+      omega (arith, o.4, length-take-le _ _ o.2),
+      o.5,
+      o.6,
+      o.7,
+    )
 
-pub slice_bounds-open-end : goal.slice_bounds-open-end
-slice_bounds-open-end c = (opens_ready c.requires c.read_whole-f.ensures c.if-f.false c.if-f-2.true).1
-
-pub slice_bounds-open-end-then-f-2 : goal.slice_bounds-open-end-then-f-2
-slice_bounds-open-end-then-f-2 c = let f = c.read_whole-f in
-    sym (length-take-le f.result.ours f.new.ours (opens_ready c.requires f.ensures c.if-f.false c.if-f-2.true).1)
-
-pub slice_bounds-open-end-then-f-2-2 : goal.slice_bounds-open-end-then-f-2-2
-slice_bounds-open-end-then-f-2-2 c = (opens_ready c.requires c.read_whole-f.ensures c.if-f.false c.if-f-2.true).2
-
-pub slice_bounds-open-end-then-f-2-3 : goal.slice_bounds-open-end-then-f-2-3
-slice_bounds-open-end-then-f-2-3 c = let f = c.read_whole-f in
-    sym (length-take-le f.result.theirs f.new.theirs (opens_ready c.requires f.ensures c.if-f.false c.if-f-2.true).2)
-
-pub shape_of-marks-then-f-2 : goal.shape_of-marks-then-f-2
-shape_of-marks-then-f-2 c = c.open.auto.marks
-
-pub shape_of-inquired-then-f-2 : goal.shape_of-inquired-then-f-2
-shape_of-inquired-then-f-2 c = c.open.auto.inquired
-
-pub shape_of-ids-then-f-2 : goal.shape_of-ids-then-f-2
-shape_of-ids-then-f-2 c = c.read_whole-f.auto.ids
-
-pub shape_of-hashes-then-f-2 : goal.shape_of-hashes-then-f-2
-shape_of-hashes-then-f-2 c = c.read_whole-f.auto.hashes
-
-pub shape_of-counts-then-f-2 : goal.shape_of-counts-then-f-2
-shape_of-counts-then-f-2 c = c.read_whole-f.auto.counts
-
-pub shape_of-ours-then-f-2 : goal.shape_of-ours-then-f-2
-shape_of-ours-then-f-2 c = c.read_whole-f.auto.ours
-
-pub shape_of-theirs-then-f-2 : goal.shape_of-theirs-then-f-2
-shape_of-theirs-then-f-2 c = c.read_whole-f.auto.theirs
-
-pub shape_of-out-then-f-2 : goal.shape_of-out-then-f-2
-shape_of-out-then-f-2 c = c.open.auto.out
-
-pub returns-then-f-2 : goal.returns-then-f-2
-returns-then-f-2 c = last_opens c.requires c.read_whole-f.ensures c.if-f.false (test_granted c.admits_slice.ensures (ap not c.if-not-admits_slice.false)) (test_granted c.is_placed.ensures (ap not c.if-not-is_placed.false))
-    c.if-f-2.true c.open.ensures
+pub returns-in-Ok-Opens : goal.returns-in-Ok-Opens
+returns-in-Ok-Opens c = let t = timely (goal.at.returns-in-Ok-Opens c).Else-not-is_placed in
+    last_opens c.requires (rw c.in-Ok-Opens.field-0-is at c.in-Ok-Opens.ensures) t.0 t.1 c.open.ensures
 
 pub swapped-next-requires : goal.swapped-next-requires
-swapped-next-requires c = swaps_ready c.requires c.read_whole-f.ensures c.if-f.false c.if-f-2.false
+swapped-next-requires c = swaps_ready c.requires (rw c.in-Ok-Swaps.field-0-is at c.in-Ok-Swaps.ensures)
 
-pub shape_of-ids : goal.shape_of-ids
-shape_of-ids c = c.read_whole-f.auto.ids
-
-pub shape_of-hashes : goal.shape_of-hashes
-shape_of-hashes c = c.read_whole-f.auto.hashes
-
-pub shape_of-counts : goal.shape_of-counts
-shape_of-counts c = c.read_whole-f.auto.counts
-
-pub shape_of-ours : goal.shape_of-ours
-shape_of-ours c = c.read_whole-f.auto.ours
-
-pub shape_of-theirs : goal.shape_of-theirs
-shape_of-theirs c = c.read_whole-f.auto.theirs
-
-pub shape_of-out : goal.shape_of-out
-shape_of-out c = c.send_filter-sent.auto.out
-
-pub returns : goal.returns
-returns c = let a = c.args in
-    let next = c.swapped-next in
+-- our own filter goes
+went : (c : After-send_filter)
+    → let a = c.args in
+    let n = c.swapped-next.result in
+    write c.send_filter.result c.send_filter.new.out ≡ written (own_filter (ids_of first_eight a.table.now) n.size n.salt) 0 a.out.now
+went c = let a = c.args in
+    let n = c.swapped-next in
     let r = range-sound a.slice.size a.slice.salt c.requires.range in
-    let sent = own_filter_there a.table.now next.result.size next.result.salt a.out.now c.requires.table-good
-    (subst (λ (n : Numbers). in_range n.size n.salt ≡ true) (sym next.ensures) (next_in_range a.slice.size a.slice.salt r.least r.salt_in)) (omega (arith, c.requires.out-room)) c.send_filter-sent.ensures in
-    last_swaps c.requires c.read_whole-f.ensures c.if-f.false c.if-f-2.false (test_granted c.admits_slice.ensures (ap not c.if-not-admits_slice.false)) (test_granted c.is_placed.ensures (ap not c.if-not-is_placed.false))
-    next.ensures sent.0 sent.1
+    own_filter_there a.table.now n.result.size n.result.salt a.out.now c.requires.table-good
+    (subst (λ (m : Numbers). in_range m.size m.salt ≡ true) (sym n.ensures) (next_in_range a.slice.size a.slice.salt r.least r.salt_in)) (omega (arith, c.requires.out-room))
+    c.send_filter.ensures
+
+pub unwrap-sent-requires : goal.unwrap-sent-requires
+unwrap-sent-requires c = let n = c.swapped-next.result in
+    not_refused (own_filter (ids_of first_eight c.args.table.now) n.size n.salt) 0 c.args.out.now (went (goal.at.unwrap-sent-requires c).After-send_filter)
+
+pub returns-in-Ok-Swaps : goal.returns-in-Ok-Swaps
+returns-in-Ok-Swaps c = let a = c.args in
+    let n = c.swapped-next.result in
+    let t = timely (goal.at.returns-in-Ok-Swaps c).Else-not-is_placed in
+    let sent = sent_to (own_filter (ids_of first_eight a.table.now) n.size n.salt) 0 a.out.now (went (goal.at.returns-in-Ok-Swaps c).After-send_filter) c.unwrap-sent.ensures in
+    let m : c.map_or.result ≡ number_of c.in-Ok-Swaps.beside = search rules in
+    rw m (last_swaps c.requires (rw c.in-Ok-Swaps.field-0-is at c.in-Ok-Swaps.ensures) t.0 t.1 c.swapped-next.ensures (sent.0 ∙ zero-add _) sent.1)

@@ -7,7 +7,7 @@ use Rattle.message.specs.Reading.{content}
 use Rattle.ledger.specs.declared.numbers.Answer.{Answer}
 use Rattle.ledger.specs.Calls.{answered}
 use Rattle.session.specs.Turns.{slice_turn'}
-use Rattle.session.proofs.LayTurns.{laid_by, slice_untimely, slice_misplaced, slice-laid}
+use Rattle.session.proofs.LayTurns.{laid_by, lay_goes, slice_untimely, slice_misplaced, slice-laid}
 use mathlib.Core.Bool.{not}
 use Rattle.session.proofs.filters.on_slice.Goals as goal
 
@@ -21,6 +21,9 @@ returns-then-not-is_placed c = let a = c.args in
     ap (λ (r : Answer). slice_turn' r (columns a.ids.now a.hashes.now a.counts.now)) c.aborted-then-not-is_placed.ensures
     ∙ slice_misplaced a.numbers (content (Ibf a.slice) a.message.now) a.slice (columns a.ids.now a.hashes.now a.counts.now)
     (test_granted c.admits_slice.ensures (ap not c.if-not-admits_slice.false)) (test_refused c.is_placed.ensures (ap not c.if-not-is_placed.true))
+
+pub unwrap-requires : goal.unwrap-requires
+unwrap-requires c = lay_goes c.lay.result c.requires c.lay.ensures
 
 pub returns : goal.returns
 returns c = let a = c.args in

@@ -4,15 +4,9 @@ use Rattle.message.specs.Writing.{inquiries_of}
 use Rattle.ledger.proofs.SendLaws.{sent_to, not_refused, inquiry_writes}
 use Rattle.session.proofs.sending.send_inquiries.Goals as goal
 
-pub returns-in_default : goal.returns-in_default
-returns-in_default c = let a = c.args in
-    absurd
-    (not_refused (inquiries_of a.salt a.ids.now) a.at a.out.now
-    (c.inquiry.ensures ∙ inquiry_writes a.salt a.ids.now a.at a.out.now c.requires.0 c.requires.1)
-    c.in_default.is)
+pub unwrap-requires : goal.unwrap-requires
+unwrap-requires c = let a = c.args in not_refused (inquiries_of a.salt a.ids.now) a.at a.out.now (c.inquiry.ensures ∙ inquiry_writes a.salt a.ids.now a.at a.out.now c.requires.0 c.requires.1)
 
 pub returns : goal.returns
 returns c = let a = c.args in
-    sent_to (inquiries_of a.salt a.ids.now) a.at a.out.now
-    (c.inquiry.ensures ∙ inquiry_writes a.salt a.ids.now a.at a.out.now c.requires.0 c.requires.1)
-    c.in-To.is
+    sent_to (inquiries_of a.salt a.ids.now) a.at a.out.now (c.inquiry.ensures ∙ inquiry_writes a.salt a.ids.now a.at a.out.now c.requires.0 c.requires.1) c.unwrap.ensures

@@ -5,15 +5,9 @@ use Rattle.message.specs.Writing.{offers_of}
 use Rattle.ledger.proofs.SendLaws.{sent_to, not_refused, hashes-write}
 use Rattle.session.proofs.sending.send_offers.Goals as goal
 
-pub returns-in_default : goal.returns-in_default
-returns-in_default c = let a = c.args in
-    absurd
-    (not_refused (offers_of (hashes_of a.hashes.now)) a.at a.out.now
-    (c.offer.ensures ∙ hashes-write offers_of a.hashes.now a.at a.out.now c.requires.0 c.requires.1)
-    c.in_default.is)
+pub unwrap-requires : goal.unwrap-requires
+unwrap-requires c = let a = c.args in not_refused (offers_of (hashes_of a.hashes.now)) a.at a.out.now (c.offer.ensures ∙ hashes-write offers_of a.hashes.now a.at a.out.now c.requires.0 c.requires.1)
 
 pub returns : goal.returns
 returns c = let a = c.args in
-    sent_to (offers_of (hashes_of a.hashes.now)) a.at a.out.now
-    (c.offer.ensures ∙ hashes-write offers_of a.hashes.now a.at a.out.now c.requires.0 c.requires.1)
-    c.in-To.is
+    sent_to (offers_of (hashes_of a.hashes.now)) a.at a.out.now (c.offer.ensures ∙ hashes-write offers_of a.hashes.now a.at a.out.now c.requires.0 c.requires.1) c.unwrap.ensures

@@ -8,7 +8,9 @@ use Rattle.std.proofs.Common.{Some}
 use Rattle.bucket.specs.Columns.{Columns}
 use Rattle.filter.specs.Table.{first_eight}
 use Rattle.bucket.proofs.TestLaws.{test_refused, test_granted}
+use Rattle.message.specs.declared.kinds.Kind.{Kind}
 use Rattle.message.specs.declared.kinds.Message.{Message}
+use Rattle.form.specs.Grid.{column}
 use Rattle.ledger.specs.declared.numbers.Answer.{Answer}
 use Rattle.ledger.specs.Grid.{entry}
 use Rattle.ledger.specs.Calls.{Given, given, step_said}
@@ -27,13 +29,13 @@ given_at c ours theirs cols = let a = c.args in
 
 -- behind the screen the grid admits the message
 admitted : (c : Else-not-admits) → let a = c.args in entry a.numbers.state (column_of a.m) ≡ true
-admitted c = test_granted (c.admits.ensures ∙ ap (entry c.args.numbers.state) c.column.ensures) (ap not c.if-not-admits.false)
+admitted c = test_granted (c.admits.ensures ∙ ap (λ (k : Kind). entry c.args.numbers.state (column k)) c.kind.ensures) (ap not c.if-not-admits.false)
 
 pub returns-then-not-admits : goal.returns-then-not-admits
 unfolding given_at
 returns-then-not-admits c = λ ours theirs cols s tally. let G = given_at (goal.at.returns-then-not-admits c).Start ours theirs cols in
     ap (λ (r : Answer). leaves G r G.records G.marks G.out) c.aborted.ensures
-    ∙ screened_tie G s c.args.m c.requires.2 (test_refused (c.admits.ensures ∙ ap (entry c.args.numbers.state) c.column.ensures) (ap not c.if-not-admits.true))
+    ∙ screened_tie G s c.args.m c.requires.2 (test_refused (c.admits.ensures ∙ ap (λ (k : Kind). entry c.args.numbers.state (column k)) c.kind.ensures) (ap not c.if-not-admits.true))
 
 pub on_inquiry-requires : goal.on_inquiry-requires
 on_inquiry-requires c = let a = c.args in

@@ -72,40 +72,40 @@ returns-then-refusal-ne0 c = let G = given_first (goal.at.returns-then-refusal-n
     ap (λ (a : Answer). left a G.records G.marks G.inquired G.columns G.ours G.theirs G.out) c.refused-then-refusal-ne0.ensures
     ∙ early-refused G (first_is (goal.at.returns-then-refusal-ne0 c).After-early-refusal) (ne_eqb _ 0 c.if-refusal-ne0.true)
 
-pub returns-in_default : goal.returns-in_default
+pub returns-in_default-read : goal.returns-in_default-read
 unfolding step_said
-returns-in_default c = let G = given1 (goal.at.returns-in_default c).Else-refusal-ne0 in
+returns-in_default-read c = let G = given1 (goal.at.returns-in_default-read c).Else-refusal-ne0 in
     ap (λ (a : Answer). left a G.records G.marks G.inquired G.columns G.ours G.theirs G.out) c.aborted.ensures
-    ∙ ap (λ (m : Option Message). step_said first_eight m G) (sym c.in_default.is ∙ c.read.ensures)
-    ∙ said_at (goal.at.returns-in_default c).Else-refusal-ne0
+    ∙ ap (λ (m : Option Message). step_said first_eight m G) (sym c.in_default-read.is ∙ c.read.ensures)
+    ∙ said_at (goal.at.returns-in_default-read c).Else-refusal-ne0
 
 pub on_slice-requires : goal.on_slice-requires
 on_slice-requires c = let o = (goal.at.on_slice-requires c).Else-refusal-ne0 in
-    slice-lays (given1 o) (sound-at o) (Ibf c.in-Ibf.slice) (sym c.read.ensures ∙ c.in-Some.is ∙ ap Some c.in-Ibf.is) refl
+    slice-lays (given1 o) (sound-at o) (Ibf c.in-Ibf.slice) (sym c.read.ensures ∙ c.in-Some-read.is ∙ ap Some c.in-Ibf.is) refl
 
 pub on_last-requires : goal.on_last-requires
 on_last-requires c = let o = (goal.at.on_last-requires c).Else-refusal-ne0 in
-    last_ready (given1 o) (sound-at o) c.in-IbfLast.slice (sym c.read.ensures ∙ c.in-Some.is ∙ ap Some c.in-IbfLast.is)
+    last_ready (given1 o) (sound-at o) c.in-IbfLast.slice (sym c.read.ensures ∙ c.in-Some-read.is ∙ ap Some c.in-IbfLast.is)
 
 pub on_ledger-requires : goal.on_ledger-requires
 on_ledger-requires c = let o = (goal.at.on_ledger-requires c).Else-refusal-ne0 in
     let G = given1 o in (
-      subst (λ (t : Tally). InForm G.numbers G.table G.records G.marks G.inquired G.hash G.out t) (sym (tally_at o)) (in_form G (sound-at o)),
-      sym c.read.ensures ∙ c.in-Some.is,
-      other c.in-Some.m c.in_default-m.not-Ibf c.in_default-m.not-IbfLast,
+      in_form G (sound-at o) c.in-Some.tally (tally_at o),
+      sym c.read.ensures ∙ c.in-Some-read.is,
+      other c.in-Some-read.m c.in_default-m.not-Ibf c.in_default-m.not-IbfLast,
     )
 
 pub returns-in-Ibf : goal.returns-in-Ibf
 returns-in-Ibf c = let o = (goal.at.returns-in-Ibf c).Else-refusal-ne0 in
-    slice-said (given1 o) (sound-at o) c.in-Ibf.slice (sym c.read.ensures ∙ c.in-Some.is ∙ ap Some c.in-Ibf.is) c.on_slice.ensures ∙ said_at o
+    slice-said (given1 o) (sound-at o) c.in-Ibf.slice (sym c.read.ensures ∙ c.in-Some-read.is ∙ ap Some c.in-Ibf.is) c.on_slice.ensures ∙ said_at o
 
 pub returns-in-IbfLast : goal.returns-in-IbfLast
 returns-in-IbfLast c = let o = (goal.at.returns-in-IbfLast c).Else-refusal-ne0 in
-    last_said (given1 o) (sound-at o) c.in-IbfLast.slice (sym c.read.ensures ∙ c.in-Some.is ∙ ap Some c.in-IbfLast.is) c.on_last.ensures ∙ said_at o
+    last_said (given1 o) (sound-at o) c.in-IbfLast.slice (sym c.read.ensures ∙ c.in-Some-read.is ∙ ap Some c.in-IbfLast.is) c.on_last.ensures ∙ said_at o
 
 pub returns-in_default-m : goal.returns-in_default-m
 returns-in_default-m c = let o = (goal.at.returns-in_default-m c).Else-refusal-ne0 in
     let G = given1 o in
     c.on_ledger.ensures G.ours G.theirs G.columns (sound-at o) (tally_at o)
-    ∙ ap (λ (x : Option Message). step_said first_eight x G) (sym c.in-Some.is ∙ c.read.ensures)
+    ∙ ap (λ (x : Option Message). step_said first_eight x G) (sym c.in-Some-read.is ∙ c.read.ensures)
     ∙ said_at o
