@@ -25,16 +25,6 @@ table-few t good = omega (arith, hashes-length t, table-count t good)
 pub known-count : (n : ℕ) (records : List ℕ) → 64 * n ≤ length records → length (hashes_of (take (64 * n) records)) ≡ n
 known-count n records h = omega (arith, hashes-length (take (64 * n) records), length-take-le (64 * n) records h)
 
--- what is beyond n, where that is there
-pub drop-there : (n : ℕ) (l : List ℕ) → drop (min (length l) n) l ≡ drop n l
-drop-there n l = go (leb n (length l)) refl
-  where
-    go : (b : Bool) → leb n (length l) ≡ b → drop (min (length l) n) l ≡ drop n l
-    go true e = ap (λ (k : ℕ). drop k l) {x = min (length l) n} {y = n} (omega (arith, leb-true n (length l) e))
-    go false e =
-        let short = leb-false n (length l) e in
-        drop_of_length-le l {i = min (length l) n} (omega (arith, short)) ∙ sym (drop_of_length-le l {i = n} (omega (arith, short)))
-
 common-few : (l m : List ℕ) → common l m ≤ length l
 common-few l m = omega (arith, common-rest l m)
 

@@ -1,6 +1,7 @@
 // Parts of the ledger's test: the IDs of hashes, what two lists of IDs share, and marks.
-ghost use Rattle.std.specs.Prelude.{◌≡◌, true, ◌≤◌, length};
+ghost use Rattle.std.specs.Prelude.{◌≡◌, Bool, true, ℕ, ◌≤◌, length};
 ghost use Rattle.filter.specs.Lists.{ascending};
+ghost use Rattle.filter.specs.Sets.{all};
 ghost use Rattle.filter.specs.Table.{first_eight, hashes_of, ids_of};
 ghost use Rattle.form.specs.Tallies.{table_mark, record_mark, common};
 
@@ -34,6 +35,18 @@ pub(crate) fn common(a: &[u64], b: &[u64]) -> usize
         j += usize::from(y <= x);
     }
     c
+}
+
+// Whether every mark fits. Each is looked at, with no early exit, so that many are at once.
+pub(crate) fn all_fit<F: Fn(u8) -> bool>(marks: &[u8], fits: F) -> bool
+    requires { F.IsAlwaysCallable fits }
+    ensures { (p : ℕ → Bool) → ((m : ℕ) (b : Bool) → F.post fits m b → b ≡ p m) → result ≡ all p marks.now }
+{
+    let mut fit = true;
+    for m in marks {
+        fit &= fits(*m);
+    }
+    fit
 }
 
 #[tactic(auto, unfolding(crate::specs::Tallies::table_mark))]

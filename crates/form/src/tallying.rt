@@ -6,7 +6,7 @@ ghost use Rattle.filter.specs.Table.{first_eight, hashes_of, is_table};
 ghost use Rattle.ledger.specs.Calls.{given, good_form};
 ghost use Rattle.form.specs.Tallies.{idle, counts_of, form_by, tally_by, tally_of, cut, tally_there, judged_by, Few};
 
-use crate::judging::{common, ids_into, is_record_mark, is_table_mark};
+use crate::judging::{all_fit, common, ids_into, is_record_mark, is_table_mark};
 use ledger::numbers::{ACTIVE, EXPECTING, EXPECTING_LAST, Numbers, PASSIVE};
 
 // What the messages of a session count on: how many IDs are held or wanted, how many inquired ones are held, and how many demands are unmet.
@@ -140,10 +140,10 @@ fn judge_part(
     if !inquired.is_sorted_by(|a, b| a < b) {
         return None;
     }
-    if !marks.iter().all(|m| is_table_mark(*m)) {
+    if !all_fit(marks, is_table_mark) {
         return None;
     }
-    if !flags.iter().all(|m| is_record_mark(*m)) {
+    if !all_fit(flags, is_record_mark) {
         return None;
     }
     let counts = counted(table, known, marks, flags, inquired);
@@ -170,7 +170,7 @@ fn counted(table: &[u8], known: &[u8], marks: &[u8], flags: &[u8], inquired: &[u
         came: common(inquired, ts),
         wanted: common(ks, inquired),
         met: flags.iter().filter(|m| crate::marks::is_met(**m)).count(),
-        unmarked: marks.iter().all(|m| *m == 0),
+        unmarked: all_fit(marks, |m| m == 0),
     }
 }
 

@@ -3,11 +3,9 @@ use mathlib.Core.Path.{◌∙◌}
 use Rattle.std.proofs.Common.{rules, tests}
 use Rattle.std.proofs.lemmas.Iterator.{YieldsList-from_slice}
 use Rattle.std.proofs.lemmas.Iterator.Consumers.{count_from_yields_List, YieldsList-from_filter}
-use Rattle.std.proofs.lemmas.Iterator.Search.{all_from_yields_List}
 use Rattle.std.proofs.lemmas.List.Sums.{length-filter}
 use Rattle.ledger.specs.Memory.{is_met}
 use Rattle.form.specs.Tallies.{is_zero}
-use Rattle.form.proofs.AllOfLaws.{all_listed}
 use Rattle.form.proofs.JudgeLaws.{table-few, gathered-ascend}
 use Rattle.form.proofs.tallying.counted.Goals as goal
 
@@ -29,7 +27,6 @@ common-requires-3 c = (gathered-ascend c.args.known.now _ c.requires.1 c.ids_int
 
 pub returns : goal.returns
 returns c = let flags = c.args.flags.now in
-    let marks = c.args.marks.now in
     let met = count_from_yields_List c.filter.result _ c.count.ensures.ran (YieldsList-from_filter _ is_met (YieldsList-from_slice flags cc) c.filter.ensures.closure (λ x b q k. search (rules, tests))) ∙ length-filter is_met flags in
-    let unmarked = all_from_yields_List is_zero _ _ c.all.result c.all.ensures.ran (YieldsList-from_slice marks cc) (λ x b q k. search (rules, tests)) ∙ all_listed is_zero marks in
+    let unmarked = c.all_fit.ensures is_zero (λ m b k. search (rules, tests)) in
     rw (c.common.ensures, c.common-2.ensures, c.common-3.ensures, met, unmarked, c.ids_into-ts.ensures, c.ids_into-ks.ensures)

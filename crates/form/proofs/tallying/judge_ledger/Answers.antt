@@ -2,16 +2,16 @@
 use mathlib.Core.Path.{◌≡◌, ap, ap₂, ◌∙◌}
 use mathlib.Core.Bool.{Bool, ◌&&◌}
 use mathlib.Core.List.{List}
-use Prim.Native.Nat.{ℕ, ◌*◌}
+use Prim.Native.Nat.{ℕ, ◌*◌, min}
 use native.Mathlib.Omega.{arith}
 use lib.Dec.{eqb}
 use lib.ListN.{length, take, drop, length-take}
-use Rattle.std.proofs.lemmas.List.{take_min}
+use Rattle.std.proofs.lemmas.List.{take_min, drop_min}
 use Rattle.bucket.specs.Lists.{part}
 use Rattle.filter.specs.Table.{first_eight, ids_of}
 use Rattle.ledger.specs.declared.numbers.Numbers.{Numbers}
 use Rattle.form.specs.Tallies.{tally_of, tally_there}
-use Rattle.form.proofs.JudgeLaws.{known-count, ids-count, drop-there}
+use Rattle.form.proofs.JudgeLaws.{known-count, ids-count}
 use Rattle.form.proofs.tallying.judge_ledger.Goals as goal
 
 abbrev whole_of : Numbers → Numbers → Bool
@@ -34,12 +34,13 @@ returns c = let a = c.args in
     let known = take (64 * P.demanded) a.records.now in
     let demanded = ap (λ (N : Numbers). N.demanded) c.there-part.ensures in
     let n : P.demanded ≡ length (ids_of first_eight known) = omega (arith, ids-count known, known-count P.demanded a.records.now (omega (arith, demanded))) in
+    let there : c.min.result ≡ min 4096 (length a.marks.now) = omega (arith, c.min.ensures) in
     c.judge_part.ensures
     ∙ ap₂ (λ (m f : List ℕ). tally_of P (whole_of P a.numbers) a.table.now known m f (take P.inquired a.inquired.now))
     (ap (λ (k : ℕ). take k a.marks.now) c.min-marked.ensures
     ∙ take_min c.count.result a.marks.now
     ∙ ap (λ (k : ℕ). take k a.marks.now) (c.count.ensures ∙ ids-count a.table.now))
-    (ap₂ (λ (k : ℕ) (l : List ℕ). take k l) n (c.split_at.ensures.back ∙ ap (λ (k : ℕ). drop k a.marks.now) c.min.ensures ∙ drop-there 4096 a.marks.now))
+    (ap₂ (λ (k : ℕ) (l : List ℕ). take k l) n (c.split_at.ensures.back ∙ ap (λ (k : ℕ). drop k a.marks.now) there ∙ drop_min 4096 a.marks.now))
     ∙ ap (λ (P : Numbers).
     let known = take (64 * P.demanded) a.records.now in
     tally_of P (whole_of P a.numbers) a.table.now known (take (length (ids_of first_eight a.table.now)) a.marks.now)
