@@ -11,9 +11,12 @@ use Rattle.ledger.specs.declared.numbers.Numbers.{Numbers}
 use Rattle.session.proofs.LastTurns.{last_untimely, last_misplaced, last_whole, last_stops, opens_ready, last_opens, swaps_ready, last_swaps}
 use Rattle.std.proofs.Common.{ap}
 use mathlib.Core.Bool.{not}
-use lib.ListN.{length-take}
+use Prim.Native.Nat.{◌≤◌, ◌<◌}
+use lib.ListN.{length, take, length-take}
+use Rattle.session.specs.Ready.{Opens}
 use lib.Seq.{length-take-le}
 use Rattle.session.proofs.filters.on_last.Goals as goal
+use Rattle.session.proofs.filters.on_last.Goals.{Then-f-2}
 
 pub returns-then-not-admits_slice : goal.returns-then-not-admits_slice
 returns-then-not-admits_slice c = last_untimely c.requires (test_refused c.admits_slice.ensures (ap not c.if-not-admits_slice.true)) c.aborted.ensures
@@ -43,24 +46,30 @@ pub returns-then-f : goal.returns-then-f
 returns-then-f c = last_stops c.requires c.read_whole-f.ensures (test_granted c.admits_slice.ensures (ap not c.if-not-admits_slice.false)) (test_granted c.is_placed.ensures (ap not c.if-not-is_placed.false))
     c.if-f.true c.aborted-then-f.ensures
 
-pub open-requires : goal.open-requires
-open-requires c = let (opens, _, _, ours, theirs, salt, inquired, out) = opens_ready c.requires c.read_whole-f.ensures c.if-f.false c.if-f-2.true in
-    let f = c.read_whole-f in
-    (opens, omega (arith, ours, length-take f.result.ours f.new.ours), omega (arith, theirs, length-take f.result.theirs f.new.theirs), salt, inquired, out)
+-- what the reading left for the opening
+ready : (c : Then-f-2) → let f = c.read_whole-f in
+    Opens c.args.table.now (take f.result.ours f.new.ours) c.args.marks.now × (f.result.ours ≤ length f.new.ours) × (f.result.theirs ≤ length f.new.theirs)
+    × (f.result.ours ≤ 4096) × (f.result.theirs ≤ 4096) × (c.args.salt < 64) × (4096 ≤ length c.args.inquired.now) × (295008 ≤ length c.args.out.now)
+ready c = opens_ready c.requires c.read_whole-f.ensures c.if-f.false c.if-f-2.true
 
 pub slice_bounds-open-end : goal.slice_bounds-open-end
-slice_bounds-open-end c = (opens_ready c.requires c.read_whole-f.ensures c.if-f.false c.if-f-2.true).1
+slice_bounds-open-end c = (ready (goal.at.slice_bounds-open-end c).Then-f-2).1
 
 pub slice_bounds-open-end-then-f-2 : goal.slice_bounds-open-end-then-f-2
 slice_bounds-open-end-then-f-2 c = let f = c.read_whole-f in
-    sym (length-take-le f.result.ours f.new.ours (opens_ready c.requires f.ensures c.if-f.false c.if-f-2.true).1)
+    sym (length-take-le f.result.ours f.new.ours (ready (goal.at.slice_bounds-open-end-then-f-2 c).Then-f-2).1)
 
 pub slice_bounds-open-end-then-f-2-2 : goal.slice_bounds-open-end-then-f-2-2
-slice_bounds-open-end-then-f-2-2 c = (opens_ready c.requires c.read_whole-f.ensures c.if-f.false c.if-f-2.true).2
+slice_bounds-open-end-then-f-2-2 c = (ready (goal.at.slice_bounds-open-end-then-f-2-2 c).Then-f-2).2
 
 pub slice_bounds-open-end-then-f-2-3 : goal.slice_bounds-open-end-then-f-2-3
 slice_bounds-open-end-then-f-2-3 c = let f = c.read_whole-f in
-    sym (length-take-le f.result.theirs f.new.theirs (opens_ready c.requires f.ensures c.if-f.false c.if-f-2.true).2)
+    sym (length-take-le f.result.theirs f.new.theirs (ready (goal.at.slice_bounds-open-end-then-f-2-3 c).Then-f-2).2)
+
+pub open-requires : goal.open-requires
+open-requires c = let r = ready (goal.at.open-requires c).Then-f-2 in
+    let f = c.read_whole-f in
+    (r.0, omega (arith, r.3, length-take f.result.ours f.new.ours), omega (arith, r.4, length-take f.result.theirs f.new.theirs), r.5, r.6, r.7)
 
 pub shape_of-marks-then-f-2 : goal.shape_of-marks-then-f-2
 shape_of-marks-then-f-2 c = c.open.auto.marks
