@@ -10,7 +10,6 @@ use Rattle.bucket.specs.Digits.{joined, groups, unpacked, Below}
 use borrow.Rule.Slice.PartMut.{put_mid}
 use Rattle.bucket.specs.Lists.{over, part}
 use Rattle.bucket.specs.Crc.{tabulated}
-use Rattle.bucket.proofs.DigitLaws.{groups-length}
 use Rattle.bucket.proofs.OverLaws.{over-part, part_length}
 use Rattle.bucket.proofs.PackedLaws.{unpacked-length}
 use Rattle.filter.specs.Table.{hash_at, hashes_of}

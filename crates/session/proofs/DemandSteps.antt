@@ -1,9 +1,9 @@
 -- DEMAND: what each way through its function leaves is its turn. Assumes nothing.
 use mathlib.Core.Path.{◌≡◌, sym, ap, ◌∙◌}
 use mathlib.Core.Bool.{Bool, true, false, cond}
-use mathlib.Core.List.{List, []}
+use mathlib.Core.List.{List}
 use Prim.Native.Nat.{ℕ, ◌+◌, ◌*◌, ◌≤◌}
-use lib.ListN.{length, take, replicate, length-replicate}
+use lib.ListN.{length, take}
 use Rattle.bucket.specs.Digits.{Below, packed, unpacked}
 use Rattle.bucket.specs.Lists.{over, part}
 use Rattle.bucket.proofs.OverLaws.{part_length}

@@ -2,18 +2,13 @@
 use mathlib.Core.Path.{◌≡◌, refl, sym, ap, ap₂, ◌∙◌}
 use mathlib.Core.Bool.{Bool, true, false, not}
 use mathlib.Core.List.{List, [], ◌∷◌, map}
-use Prim.Native.Nat.{ℕ, ◌+◌, ◌*◌, ◌/◌, ◌≤◌, ◌<◌}
-use native.Mathlib.Nat.{zero-add, add-zero, add_assoc}
-use native.Mathlib.Numerals.{add-one}
+use Prim.Native.Nat.{ℕ, ◌+◌, ◌*◌, ◌≤◌}
+use native.Mathlib.Nat.{zero-add, add-zero}
 use native.Mathlib.Omega.{arith}
-use lib.ListN.{length, get_or, take, drop, drop_of_length-le}
-use lib.Seq.{length-take-le, drop-cons}
-use Rattle.bucket.specs.Digits.{joined, groups}
-use Rattle.bucket.specs.Lists.{part}
-use Rattle.bucket.proofs.OverLaws.{part-part}
+use lib.ListN.{length, take}
+use Rattle.bucket.specs.Digits.{groups}
 use Rattle.filter.specs.Lists.{select}
-use Rattle.filter.specs.Table.{hashes_of, first_eight, ids_of, position, holds}
-use Rattle.filter.proofs.TableLaws.{hashes-length, ids-length, hash_at_lem, id-at}
+use Rattle.filter.specs.Table.{first_eight, ids_of, position, holds}
 use Rattle.filter.proofs.SelectLaws.{select_yes, select_no}
 use Rattle.session.specs.Moves.{extra, hash_into, mark_into, stored, store_all}
 

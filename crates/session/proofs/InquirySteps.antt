@@ -10,7 +10,7 @@ use lib.ListN.{length, take}
 use lib.Seq.{length-take-le}
 use borrow.Author.Tests.{eq-eqb, ne_eqb}
 use Rattle.bucket.specs.Digits.{packed}
-use Rattle.bucket.specs.Lists.{over, part}
+use Rattle.bucket.specs.Lists.{over}
 use Rattle.filter.specs.Table.{first_eight, hashes_of}
 use Rattle.message.specs.Writing.{layouts, offers_of}
 use Rattle.ledger.specs.declared.numbers.Numbers.{Numbers}

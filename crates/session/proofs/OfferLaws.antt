@@ -2,7 +2,7 @@
 use mathlib.Core.Path.{◌≡◌, refl, sym, ap, ap₂, subst, ◌∙◌}
 use mathlib.Core.Bool.{Bool, true, false, not, ◌&&◌, cond, ◌||◌, true≢false, false≢true, or_comm, and-eq-true_iff}
 use mathlib.Core.List.{List, [], ◌∷◌, ◌++◌, map}
-use Prim.Native.Nat.{ℕ, ◌+◌, ◌*◌, ◌/◌, ◌≤◌, ◌<◌, ◌^◌}
+use Prim.Native.Nat.{ℕ, ◌+◌, ◌*◌, ◌≤◌, ◌<◌, ◌^◌}
 use native.Mathlib.Omega.{arith}
 use lib.Dec.{eqb, ltb}
 use lib.ListN.{length, get_or, take, length-map}
@@ -11,7 +11,7 @@ use Rattle.bucket.specs.Digits.{joined, groups, packed}
 use Rattle.bucket.specs.Lists.{part, over, elem}
 use Rattle.bucket.proofs.ListLaws.{elem_at, elem_last, elem_cases, elem-nil}
 use Rattle.filter.specs.Table.{hashes_of, first_eight, ids_of, position, holds}
-use Rattle.filter.proofs.TableLaws.{ids-length, hash_at_lem, first_eight_part}
+use Rattle.filter.proofs.TableLaws.{hash_at_lem}
 use Rattle.filter.proofs.OrderLaws.{same_test, ascending-distinct, map_at}
 use Rattle.filter.proofs.BisectLaws.{held}
 use Rattle.ledger.proofs.BelowLaws.{hashes-written}

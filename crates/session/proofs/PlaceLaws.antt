@@ -1,18 +1,18 @@
 -- Places: where searches in the table and among the demanded hashes end, what stands at a place, and 64 bytes compared. Assumes nothing.
 use mathlib.Core.Path.{◌≡◌, refl, sym, ap, ap₂, ◌∙◌}
-use mathlib.Core.Bool.{Bool, true, false, not, ◌&&◌, ◌||◌, cond, and-eq-true_iff, true≢false}
-use mathlib.Core.List.{List, [], ◌∷◌, ◌++◌, map}
+use mathlib.Core.Bool.{Bool, true, false, not, ◌&&◌, cond, and-eq-true_iff, true≢false}
+use mathlib.Core.List.{List, map}
 use Prim.Native.Nat.{ℕ, ◌+◌, ◌-◌, ◌*◌, ◌/◌, ◌^◌, ◌≤◌, ◌<◌}
 use native.Mathlib.Omega.{arith}
 use lib.Dec.{eqb, ltb, leb}
 use lib.ListN.{length, get_or}
 use lib.Seq.{take_all}
-use borrow.Author.Tests.{eqb-true, lt-ltb, le-ltb, ltb-true, ltb-false, le-leb, lt-leb, leb-true, leb-false, eq-eqb, ne_eqb}
+use borrow.Author.Tests.{eqb-true, lt-ltb, le-ltb, ltb-true, ltb-false, le-leb, lt-leb, eq-eqb, ne_eqb}
 use Rattle.bucket.specs.Digits.{joined, groups, Below}
 use Rattle.bucket.specs.Lists.{part}
 use Rattle.bucket.proofs.DigitLaws.{groups-below, groups-joined, joined-groups, groups-length}
 use Rattle.message.proofs.RoundLaws.{hashes-below}
-use Rattle.bucket.proofs.OverLaws.{part_length, part_suc}
+use Rattle.bucket.proofs.OverLaws.{part_length}
 use Rattle.bucket.proofs.TestLaws.{and_fails, and_holds, cond-kept, cond-made}
 use Rattle.filter.specs.Table.{hashes_of, first_eight, ids_of, is_table, position, holds}
 use Rattle.filter.proofs.BisectLaws.{holds-there, holds-past}

@@ -2,25 +2,21 @@
 use mathlib.Core.Path.{◌≡◌, refl, sym, ap, ap₂, subst, ◌∙◌}
 use mathlib.Core.Logic.{◌⊎◌, inl, inr}
 use mathlib.Core.Bool.{Bool, true, false, cond}
-use mathlib.Core.List.{List, [], ◌∷◌, foldr, ◌++◌, append-nil}
+use mathlib.Core.List.{List, [], ◌∷◌, foldr}
 use Prim.Native.Nat.{ℕ, zero, suc, ◌+◌, ◌-◌, ◌*◌, ◌%◌, ◌^◌, ◌≤◌, ◌<◌, suc-le-suc, ◌/◌}
 use native.Mathlib.Omega.{arith}
 use native.Mathlib.Nat.{zero-mul}
-use native.Mathlib.Numerals.{add-one}
 use lib.Bits.{bit_xor, xor_lt, xor_mod, xor_block, xor_zero_r}
 use lib.Dec.{eqb, ltb}
 use lib.ListN.{length, get_or, set, drop, length-drop, length-set, get_or-eq_default, take, replicate}
-use lib.Seq.{get_or-set_same, get_or-set_other, get_or-drop, get_or-take, take_all, take-length, take-suc, length-take-le}
-use borrow.Author.Count.{below_more}
+use lib.Seq.{get_or-set_same, get_or-set_other, take_all}
 use borrow.Author.Tests.{eqb-true, eqb-false, ltb-true, ltb-false}
 use Rattle.bucket.specs.Digits.{joined, packed, Below}
 use Rattle.bucket.specs.Lists.{part}
 use Rattle.bucket.specs.Crc.{tabulated}
 use Rattle.bucket.proofs.DigitLaws.{joined_lt}
-use Rattle.bucket.proofs.OverLaws.{part_length, part_suc}
 use Rattle.bucket.proofs.XorLaws.{xor_assoc}
 use Rattle.filter.specs.Table.{hash_at, hashes_of}
-use Rattle.filter.proofs.TableLaws.{hashes-length, hash_at_lem}
 use Rattle.message.proofs.HashLaws.{hashes-packed}
 use Rattle.ledger.proofs.BelowLaws.{zeros-below}
 use Rattle.session.specs.Ready.{Sum, Adds}

@@ -65,12 +65,7 @@ pub(crate) fn place_of_hash(table: &[u8], known: &[u8], hash: &[u8]) -> Option<u
 }
 
 // The place of a demanded hash that is unmet.
-pub(crate) fn unmet_place(
-    table: &[u8],
-    known: &[u8],
-    marks: &[u8],
-    hash: &[u8],
-) -> Option<usize>
+pub(crate) fn unmet_place(table: &[u8], known: &[u8], marks: &[u8], hash: &[u8]) -> Option<usize>
     requires { Kept table.now known.now marks.now × (length hash.now ≡ 64) }
     ensures { IsPlace result (unmet_at marks.now (place_of_hash first_eight (hashes_of table.now) (hashes_of known.now) (joined 8 hash.now))) }
 {

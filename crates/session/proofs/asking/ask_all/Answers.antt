@@ -1,13 +1,12 @@
 use mathlib.Core.Path.{◌≡◌, refl, sym, ap, ap₂, ◌∙◌}
-use mathlib.Core.Bool.{Bool, true, ◌||◌}
+use mathlib.Core.Bool.{Bool, ◌||◌}
 use mathlib.Core.List.{List, ◌∷◌}
 use Prim.Native.Nat.{ℕ, ◌+◌, ◌*◌, ◌%◌, ◌≤◌}
 use native.Mathlib.Omega.{arith}
 use borrow.Author.Tests.{le-leb, lt-leb}
 use lib.Dec.{leb}
-use lib.ListN.{length, get_or, length-append}
+use lib.ListN.{length, length-append}
 use Rattle.bucket.specs.Lists.{over}
-use Rattle.ledger.specs.Memory.{is_asked}
 use Rattle.session.proofs.ChunkLaws.{ids_in, ids-cons, ids_none, lent-length, lent_over}
 use Rattle.session.proofs.PlaceLaws.{held_none, place-placed, place-size, table-short}
 use Rattle.session.proofs.AskLaws.{asking-start, asking_passes, asking-stops, asking-next, asking-end}

@@ -9,5 +9,5 @@ use Rattle.session.proofs.checking.xor_all.Given as goal
 abbrev pub invariant-loop-hash : goal.invariant-loop-hash
 invariant-loop-hash l = record {
   size : l.hash-iterator.size ≡ 64;
-  sum : Left l.initial.acc (foldr bit_xor 0 (hashes_of l.s)) l.acc (foldr bit_xor 0 (hashes_of l.hash-iterator.rest.now))
+  sum : Left l.initial.acc (foldr bit_xor 0 (hashes_of l.s)) l.acc (foldr bit_xor 0 (hashes_of l.hash-iterator.rest.now));
 }

@@ -7,5 +7,5 @@ use Rattle.session.proofs.checking.xor_met.Given as goal
 abbrev pub invariant-loop-hash : goal.invariant-loop-hash
 invariant-loop-hash l = record {
   size : l.hash-iterator.a.size ≡ 64;
-  sum : Left l.initial.acc (met_sum (hashes_of l.known) l.marks) l.acc (met_sum (hashes_of l.hash-iterator.a.rest.now) l.hash-iterator.b.rest.now)
+  sum : Left l.initial.acc (met_sum (hashes_of l.known) l.marks) l.acc (met_sum (hashes_of l.hash-iterator.a.rest.now) l.hash-iterator.b.rest.now);
 }

@@ -4,7 +4,6 @@ use Rattle.std.proofs.Common.{rules}
 use Rattle.std.specs.Cmp.Lexicographic.{pointwise}
 use mathlib.Core.Path.{◌≡◌, sym, ap, ◌∙◌}
 use mathlib.Core.Bool.{Bool, false, not, ◌&&◌}
-use Prim.Native.Nat.{◌*◌}
 use lib.Bits.{bit_xor}
 use lib.ListN.{take}
 use lib.Dec.{eqb}

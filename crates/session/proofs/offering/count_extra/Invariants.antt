@@ -7,5 +7,5 @@ use Rattle.session.proofs.offering.count_extra.Given as goal
 abbrev pub invariant-loop-hash : goal.invariant-loop-hash
 invariant-loop-hash l = record {
   size : l.hash-iterator.size ≡ 64;
-  counted : Counting l.inquired (hashes_of l.hashes) l.n (hashes_of l.hash-iterator.rest.now)
+  counted : Counting l.inquired (hashes_of l.hashes) l.n (hashes_of l.hash-iterator.rest.now);
 }

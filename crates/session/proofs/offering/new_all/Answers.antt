@@ -2,7 +2,7 @@ use mathlib.Core.Path.{◌≡◌, refl, sym, ap, ◌∙◌}
 use mathlib.Core.List.{List, ◌∷◌}
 use Prim.Native.Nat.{ℕ, ◌+◌, ◌*◌, ◌≤◌, ◌<◌}
 use native.Mathlib.Omega.{arith}
-use lib.ListN.{length, take, length-take}
+use lib.ListN.{length, length-take}
 use lib.Seq.{length-take-le}
 use Rattle.bucket.specs.Digits.{joined}
 use Rattle.bucket.specs.Lists.{over}
@@ -48,12 +48,12 @@ slice_bounds-judge_item-end-in-loop-hash c = let at = c.loop-hash in
 
 pub judge_item-requires : goal.judge_item-requires
 judge_item-requires c = let at = (goal.at.judge_item-requires c).In-Some in (
-      table-short c.args.table.now c.requires.0,
-      table-short c.args.known.now c.requires.1,
-      omega (arith, few at, length-take (64 * c.loop-hash.m) c.loop-hash.fresh),
-      c.requires.2,
-      size at,
-    )
+  table-short c.args.table.now c.requires.0,
+  table-short c.args.known.now c.requires.1,
+  omega (arith, few at, length-take (64 * c.loop-hash.m) c.loop-hash.fresh),
+  c.requires.2,
+  size at,
+)
 
 pub returns-in-Bad-clause-walked : goal.returns-in-Bad-clause-walked
 returns-in-Bad-clause-walked c = let at = (goal.at.returns-in-Bad-clause-walked c).In-Some in

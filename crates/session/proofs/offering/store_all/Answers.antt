@@ -1,8 +1,6 @@
-use mathlib.Core.Path.{◌≡◌, refl, sym, ap, ◌∙◌}
-use mathlib.Core.List.{◌∷◌}
+use mathlib.Core.Path.{◌≡◌, refl, ap, ◌∙◌}
 use native.Mathlib.Omega.{arith}
 use lib.ListN.{length, length-append}
-use Rattle.bucket.specs.Digits.{joined}
 use Rattle.bucket.proofs.DigitLaws.{groups-joined}
 use Rattle.filter.specs.Table.{hashes_of}
 use Rattle.session.proofs.ChunkLaws.{front-below, rest-below, hashes-cons, hashes_none}

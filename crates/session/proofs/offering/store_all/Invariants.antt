@@ -12,5 +12,5 @@ invariant-loop-hash l = record {
   size : l.hash-iterator.size ≡ 64;
   bytes : Below 8 l.hash-iterator.rest.now;
   room : 64 * l.n + length l.hash-iterator.rest.now ≤ 262144;
-  put : Putting l.initial.n (hashes_of l.hashes) l.initial.records l.initial.marks l.records l.marks l.n (hashes_of l.hash-iterator.rest.now)
+  put : Putting l.initial.n (hashes_of l.hashes) l.initial.records l.initial.marks l.records l.marks l.n (hashes_of l.hash-iterator.rest.now);
 }

@@ -1,9 +1,8 @@
 -- `places::hash_at` meets its contract. Assumes nothing.
 use mathlib.Core.Path.{◌∙◌}
 use Prim.Native.Nat.{◌-◌, ◌*◌}
-use native.Mathlib.Omega.{arith}
 use Rattle.session.proofs.ChunkLaws.{lent}
-use Rattle.session.proofs.PlaceLaws.{first-placed, second_placed, bytes-first, bytes_second}
+use Rattle.session.proofs.PlaceLaws.{bytes-first, bytes_second}
 use Rattle.session.proofs.places.hash_at.Goals as goal
 
 pub returns-then-p-lt-RECORDS : goal.returns-then-p-lt-RECORDS

@@ -1,6 +1,5 @@
 -- `places::unmet_place` meets its contract: each test that fails makes the place none. Assumes nothing.
 use mathlib.Core.Path.{sym, ap, ◌∙◌}
-use native.Mathlib.Omega.{arith}
 use Rattle.session.specs.Moves.{unmet_at}
 use Rattle.session.proofs.PlaceLaws.{table-short, unmet_outside, unmet_nowhere, unmet-met, unmet-there}
 use Rattle.session.proofs.places.unmet_place.Goals as goal

@@ -7,6 +7,6 @@ pub returns-then-salt-eq63 : goal.returns-then-salt-eq63
 unfolding next_salt
 returns-then-salt-eq63 c = rw (eq-eqb _ _ c.if-salt-eq63.true)
 
-pub returns : goal.returns
+pub returns-else-salt-eq63 : goal.returns-else-salt-eq63
 unfolding next_salt
-returns c = rw (ne_eqb _ _ c.if-salt-eq63.false)
+returns-else-salt-eq63 c = rw (ne_eqb _ _ c.if-salt-eq63.false)
