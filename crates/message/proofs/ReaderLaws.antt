@@ -52,8 +52,8 @@ use Rattle.message.specs.contracts.walking.Found as F
 use Rattle.message.proofs.walking.Found.TheLaws as F'
 use Rattle.message.specs.contracts.walking.Broken as B
 use Rattle.message.proofs.walking.Broken.TheLaws as B'
-use Rattle.message.specs.contracts.reader.new as new
-use Rattle.message.specs.contracts.reader.next as next
+use Rattle.message.specs.contracts.reader.Reader.new as new
+use Rattle.message.specs.contracts.reader.Reader.next as next
 
 -- the structs' types, at a signature's lifetime and in a local
 abbrev pub Readers : Lft → RattleType

@@ -26,24 +26,26 @@ pub struct Stop {
     pub start: usize,
 }
 
-pub fn new<'a>(src: &'a [u8], at: usize) -> Reader<'a>
-    ensures { result ≡ reader_at src.entry at }
-{
-    Reader { src, at }
-}
+impl<'a> Reader<'a> {
+    pub fn new(src: &'a [u8], at: usize) -> Self
+        ensures { result ≡ reader_at src.entry at }
+    {
+        Reader { src, at }
+    }
 
-// The message at the reader's position. The reader stays there where none is.
-pub fn next<'a>(r: Reader<'a>) -> Taken<'a>
-    ensures { result ≡ next_of r.entry }
-{
-    let walked = crate::walking::walk_at(r.src, r.at);
-    let at = match walked {
-        Some(Ok(found)) => found.next,
-        _ => r.at,
-    };
-    Taken {
-        walked,
-        rest: Reader { src: r.src, at },
+    // The message at the reader's position. The reader stays there where none is.
+    pub fn next(self) -> Taken<'a>
+        ensures { result ≡ next_of self.entry }
+    {
+        let walked = crate::walking::walk_at(self.src, self.at);
+        let at = match walked {
+            Some(Ok(found)) => found.next,
+            _ => self.at,
+        };
+        Taken {
+            walked,
+            rest: Reader { src: self.src, at },
+        }
     }
 }
 
@@ -51,21 +53,21 @@ pub fn next<'a>(r: Reader<'a>) -> Taken<'a>
 pub fn message_at(s: &[u8], at: usize) -> Option<Result<Found, Broken>>
     ensures { result ≡ walk_at s.now at }
 {
-    next(new(s, at)).walked
+    Reader::new(s, at).next().walked
 }
 
 // A whole buffer, message by message: how many there are.
 pub fn walk(s: &[u8]) -> Result<usize, Stop>
     ensures { result ≡ whole_of s.now }
 {
-    let mut taken = next(new(s, 0));
+    let mut taken = Reader::new(s, 0).next();
     let mut count = 0;
     while let Some(walked) = taken.walked {
         if let Err(Broken { start }) = walked {
             return Err(Stop { count, start });
         }
         count += 1;
-        taken = next(taken.rest);
+        taken = taken.rest.next();
     }
     Ok(count)
 }
