@@ -1,23 +1,25 @@
 // What a step answers, and how the numbers of a session go on.
 ghost use Rattle.std.specs.Prelude.{◌≡◌};
+ghost use Rattle.filter.specs.Answers.{refusal_number};
 ghost use Rattle.ledger.specs.Calls.{answered, in_state};
 ghost use Rattle.form.specs.Answers.{aborted, changed, sliced_numbers, opened_numbers};
 
+use filter::answers::Refusal;
 use ledger::numbers::{ABORTED, ACTIVE, Answer, EXPECTING_LAST, Numbers};
 
 // A refusal that ends the session: nothing is sent.
-pub fn aborted(refusal: u32, numbers: Numbers) -> Answer
-    ensures { result ≡ aborted refusal numbers }
+pub fn aborted(why: Refusal, numbers: Numbers) -> Answer
+    ensures { result ≡ aborted (refusal_number why) numbers }
 {
-    refused(refusal, in_state(numbers, ABORTED))
+    refused(why, in_state(numbers, ABORTED))
 }
 
 // A refusal that changes nothing.
-pub fn refused(refusal: u32, numbers: Numbers) -> Answer
-    ensures { result ≡ answered refusal 0 0 numbers }
+pub fn refused(why: Refusal, numbers: Numbers) -> Answer
+    ensures { result ≡ answered (refusal_number why) 0 0 numbers }
 {
     Answer {
-        refusal,
+        refusal: u32::from(why),
         sent: 0,
         due: 0,
         next: numbers,

@@ -1,8 +1,11 @@
 // What a step is refused with before its message is read.
-ghost use Rattle.std.specs.Prelude.{◌≡◌};
+ghost use Rattle.std.specs.Prelude.{◌≡◌, IfOk, Some, is_some};
+ghost use Rattle.std.specs.Result.{result_err};
+ghost use Rattle.filter.specs.Answers.{number_of};
 ghost use Rattle.form.specs.Answers.{rooms_of, early_of};
 
-use ledger::numbers::{FORM, OUT_OF_TURN, ROOM};
+use crate::tallying::Tally;
+use filter::answers::Refusal;
 
 // Refusal 2's test of its slices, by their lengths.
 #[tactic(auto, unfolding(crate::specs::Answers::rooms_of))]
@@ -32,19 +35,18 @@ pub fn has_room(
         && 295008 <= out
 }
 
-// Its form, then its rooms, then whether the session has ended; 0 where none of them refuses it.
+// Its form, then its rooms, then whether the session has ended; where none of them refuses it, the tally of its ledger.
 #[tactic(auto, unfolding(crate::specs::Answers::early_of))]
-pub fn early(good: bool, roomy: bool, state: u32) -> u32
-    ensures { result ≡ early_of good roomy state }
+pub fn admit(judged: Option<Tally>, roomy: bool, state: u32) -> Result<Tally, Refusal>
+    ensures refused { number_of (result_err result) ≡ early_of (is_some judged) roomy state }
+    ensures taken { IfOk result (λ tally. judged ≡ Some tally) }
 {
-    if !good {
-        return FORM;
-    }
+    let tally = judged.ok_or(Refusal::Form)?;
     if !roomy {
-        return ROOM;
+        return Err(Refusal::Room);
     }
     if crate::grid::is_ended(state) {
-        return OUT_OF_TURN;
+        return Err(Refusal::OutOfTurn);
     }
-    0
+    Ok(tally)
 }

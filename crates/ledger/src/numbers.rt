@@ -14,31 +14,11 @@ pub const FINISHED: u32 = 6;
 
 pub const ABORTED: u32 = 7;
 
-// The refusals (document 01, "Refusal numbers"), as `refusal_number` numbers the cases of `filter::answers::Refusal`.
-pub const FORM: u32 = 1;
-
-pub const ROOM: u32 = 2;
-
-pub const RANGE: u32 = 3;
-
-pub const MALFORMED: u32 = 4;
-
-pub const OUT_OF_TURN: u32 = 5;
-
-pub const FALSE_READING: u32 = 6;
-
-pub const BREACH: u32 = 7;
-
-pub const CHECKSUM: u32 = 8;
-
-pub const SWAPS: u32 = 9;
-
-pub const LIMIT: u32 = 10;
-
 // What a caller keeps of a session beside its memory.
 #[repr(C)]
 #[derive(Clone, Copy)]
 pub struct Numbers {
+    // a number, since C may hand in any: `form::grid::State` is the enum, read by `TryFrom<u32>`
     pub state: u32,
     // 1 from the entry to Passive Decoding until a message has come
     pub first: u32,
@@ -55,7 +35,7 @@ pub struct Numbers {
     pub inquired: u32,
 }
 
-// What a call answers: the refusal's number, how many bytes of messages were written, how many bare hashes, and the session's numbers now.
+// What a call answers: the refusal's number (`refusal_number` of `filter::answers::Refusal`, 0 for none: C reads it), how many bytes of messages were written, how many bare hashes, and the session's numbers now.
 #[repr(C)]
 #[derive(Clone, Copy)]
 pub struct Answer {
