@@ -16,8 +16,8 @@ use Rattle.filter.specs.Table.{first_eight, hashes_of, ids_of}
 use Rattle.message.proofs.WholeLaws.{packed-nil, packed_snoc, whole_length}
 use Rattle.ledger.specs.Memory.{is_asked, is_offered, is_served}
 use Rattle.session.specs.Moves.{place_of, is_held_at, hash_at_place, go_all, Walk, walk, is_fine, ask_at, ask_one, ask_all, place_of_hash, serve_at, serve_one, serve_all}
-use Rattle.session.specs.Ready.{Served, Walked}
-use Rattle.std.specs.Prelude.{Some}
+use Rattle.session.specs.Ready.{Walked}
+use Rattle.std.specs.Prelude.{Ok}
 
 -- ---- items, one after the other
 
@@ -94,7 +94,7 @@ asking-start table known marks hashes ids = record {
 }
 
 module _ {table known marks₀ hashes₀ ids marks hashes : List ℕ} {m : ℕ} {left : List ℕ} (s : Asking table known marks₀ hashes₀ ids marks hashes m left) where
-  pub asking-end : left ≡ [] → Walked (ask_all first_eight (hashes_of table) (hashes_of known) ids marks₀) (Some m) marks hashes hashes₀
+  pub asking-end : left ≡ [] → Walked (ask_all first_eight (hashes_of table) (hashes_of known) ids marks₀) (Ok m) marks hashes hashes₀
   asking-end none =
       let all = going_end s.going none in (
         record {
@@ -159,10 +159,13 @@ abbrev servable : List ℕ → ℕ → Bool
 servable marks p = ltb p 8192 && (is_offered (get_or marks p 0) && not (is_served (get_or marks p 0)))
 
 module _ {table known marks₀ hs marks left : List ℕ} (s : Serving table known marks₀ hs marks left) where
-  pub serving-end : left ≡ [] → Served (serve_all first_eight (hashes_of table) (hashes_of known) hs marks₀) true marks
+  abbrev all_served : Walk
+  all_served = serve_all first_eight (hashes_of table) (hashes_of known) hs marks₀
+
+  pub serving-end : left ≡ [] → (all_served.fine ≡ true) × (marks ≡ all_served.marks)
   serving-end none =
       let all = going_end s.going none in
-      (ap (λ (w : Walk). w.fine) all, λ e. ap (λ (w : Walk). w.marks) all)
+      (sym (ap (λ (w : Walk). w.fine) all), ap (λ (w : Walk). w.marks) all)
 
   module _ {x p : ℕ} {rest : List ℕ} (item : left ≡ x ∷ rest) (is : p ≡ place_of_hash first_eight (hashes_of table) (hashes_of known) x) where
     served : {t : Bool} → servable marks p ≡ t
@@ -172,15 +175,14 @@ module _ {table known marks₀ hs marks left : List ℕ} (s : Serving table know
         ap (λ (t : Bool). cond t (walk true (set marks p (get_or marks p 0 + 4)) []) (walk false marks [])) (sym e)
         ∙ ap (λ (q : ℕ). serve_at first_eight (hashes_of table) (hashes_of known) q (walk true marks [])) is
 
-    serving-stops : servable marks p ≡ false → Served (serve_all first_eight (hashes_of table) (hashes_of known) hs marks₀) false marks
-    serving-stops e = (ap (λ (w : Walk). w.fine) (going-stops s.going item (served e) refl), λ t. absurd (false≢true t))
+    serving-stops : servable marks p ≡ false → all_served.fine ≡ false
+    serving-stops e = sym (ap (λ (w : Walk). w.fine) (going-stops s.going item (served e) refl))
 
-    pub serving-nowhere : p ≡ 8192 → Served (serve_all first_eight (hashes_of table) (hashes_of known) hs marks₀) false marks
+    pub serving-nowhere : p ≡ 8192 → all_served.fine ≡ false
     serving-nowhere e =
         serving-stops (ap (λ (t : Bool). t && (is_offered (get_or marks p 0) && not (is_served (get_or marks p 0)))) (le-ltb p 8192 (omega arith)))
 
-    pub serving_unfit : is_offered (get_or marks p 0) && not (is_served (get_or marks p 0)) ≡ false
-        → Served (serve_all first_eight (hashes_of table) (hashes_of known) hs marks₀) false marks
+    pub serving_unfit : is_offered (get_or marks p 0) && not (is_served (get_or marks p 0)) ≡ false → all_served.fine ≡ false
     serving_unfit e = serving-stops (and_fails (ltb p 8192) e)
 
     pub serving-next : p < 8192 → is_offered (get_or marks p 0) && not (is_served (get_or marks p 0)) ≡ true

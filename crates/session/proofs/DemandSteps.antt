@@ -12,7 +12,6 @@ use Rattle.message.proofs.WholeLaws.{part-below, whole_back}
 use Rattle.ledger.specs.declared.numbers.Numbers.{Numbers}
 use Rattle.ledger.specs.declared.numbers.Answer.{Answer}
 use Rattle.session.specs.Moves.{Walk, serve_all}
-use Rattle.session.specs.Ready.{Served}
 use Rattle.form.specs.Answers.{aborted, changed}
 use Rattle.session.specs.Turns.{MarkTurn, mark_turn, demand_turn}
 
@@ -27,23 +26,24 @@ module _ (N : Numbers) (t K hs M out : List ℕ) where
   unfolding demand_turn
   demand_decided e = ap (λ (b : Bool). cond b taken (mark_turn (aborted 7 N) M out)) (sym e)
 
-  module _ {work work' : List ℕ} {fine : Bool} (copied : work ≡ take 8192 M) (walked : Served (serve_all first_eight t K hs work) fine work') where
-    same-walk : serve_all first_eight t K hs work ≡ serve_all first_eight t K hs (take 8192 M)
+  module _ {work : List ℕ} (copied : work ≡ take 8192 M) where
+    abbrev walk : Walk
+    walk = serve_all first_eight t K hs work
+
+    same-walk : walk ≡ serve_all first_eight t K hs (take 8192 M)
     same-walk = ap (serve_all first_eight t K hs) copied
 
-    fine-walk : (serve_all first_eight t K hs (take 8192 M)).fine ≡ fine
-    fine-walk = sym (walked.0 ∙ ap (λ (w : Walk). w.fine) same-walk)
+    pub demand_bad : walk.fine ≡ false → mark_turn (aborted 7 N) M out ≡ demand_turn N t K hs M out
+    demand_bad e = demand_decided (sym (ap (λ (w : Walk). w.fine) same-walk) ∙ e)
 
-    pub demand_bad : {r : Answer} → fine ≡ false → r ≡ aborted 7 N → mark_turn r M out ≡ demand_turn N t K hs M out
-    demand_bad e is = ap (λ (r : Answer). mark_turn r M out) is ∙ demand_decided (fine-walk ∙ e)
-
-    pub demand-taken : {r : Answer} {M' out' : List ℕ} → fine ≡ true → r ≡ answer (length hs) → M' ≡ over 0 work' M → out' ≡ over 0 (packed 512 hs) out
+    pub demand-taken : {work' : List ℕ} {r : Answer} {M' out' : List ℕ} → (walk.fine ≡ true) × (work' ≡ walk.marks)
+        → r ≡ answer (length hs) → M' ≡ over 0 work' M → out' ≡ over 0 (packed 512 hs) out
         → mark_turn r M' out' ≡ demand_turn N t K hs M out
-    demand-taken {r} {M'} e is back sent =
-        (λ i. mark_turn (is i) (marked i) (sent i)) ∙ demand_decided (fine-walk ∙ e)
+    demand-taken {work'} {r} {M'} (fine, marks) is back sent =
+        (λ i. mark_turn (is i) (marked i) (sent i)) ∙ demand_decided (sym (ap (λ (w : Walk). w.fine) same-walk) ∙ fine)
       where
         marked : M' ≡ over 0 (serve_all first_eight t K hs (take 8192 M)).marks M
-        marked = back ∙ ap (λ (l : List ℕ). over 0 l M) (walked.1 e ∙ ap (λ (w : Walk). w.marks) same-walk)
+        marked = back ∙ ap (λ (l : List ℕ). over 0 l M) (marks ∙ ap (λ (w : Walk). w.marks) same-walk)
 
 -- the hashes demanded are the bytes that came
 pub demand-bytes : (n : ℕ) (message out : List ℕ) {out' : List ℕ} → Below 8 message → 4 + 64 * n ≤ length message → out' ≡ over 0 (part 4 (64 * n) message) out

@@ -121,8 +121,8 @@ module _ (G : Given) (s : Sound G) (timely : entry G.numbers.state 6 ≡ true) (
 
   -- ---- the returns
 
-  pub done-early : {r : Answer} → is_early ≡ true → r ≡ aborted 5 G.numbers → leaves G r G.records G.marks G.out ≡ step_on first_eight said G
-  done-early e is = rw is (halted_tie G s said 5 refl refl (done-refusal e refl refl))
+  pub done-early : is_early ≡ true → leaves G (aborted 5 G.numbers) G.records G.marks G.out ≡ step_on first_eight said G
+  done-early e = halted_tie G s said 5 refl refl (done-refusal e refl refl)
 
   module _ (late : is_early ≡ false) where
     -- a demand is unmet: the checksum is kept for the last of them
@@ -144,8 +144,8 @@ module _ (G : Given) (s : Sound G) (timely : entry G.numbers.state 6 ≡ true) (
       is_same : same ≡ eqb (joined 8 far) check
       is_same = compared ∙ ap (eqb (joined 8 far)) number
 
-      pub done_differs : {r : Answer} → not same ≡ true → r ≡ aborted 8 G.numbers → leaves G r G.records G.marks G.out ≡ step_on first_eight said G
-      done_differs e is = rw is (halted_tie G s said 8 refl refl (done-refusal late met (test_refused is_same e)))
+      pub done_differs : not same ≡ true → leaves G (aborted 8 G.numbers) G.records G.marks G.out ≡ step_on first_eight said G
+      done_differs e = halted_tie G s said 8 refl refl (done-refusal late met (test_refused is_same e))
 
       module _ (equal : not same ≡ false) where
         pub done_answers : {r : Answer} {sent : ℕ} {out' : List ℕ} → is_passive ≡ true

@@ -102,10 +102,10 @@ module _ (G : Given) (s : Sound G) where
         number_of (first_of ((OutOfTurn, (admitted_other (session_in G) (element bytes) refl ∙ timely) i) ∷ (Breach, known i) ∷ (Checksum, same i) ∷ []))
 
     -- a hash that was not demanded, or was met
-    pub element_unknown : {p : ℕ} {r : Answer} → p ≡ unmet_at G.marks place → 8192 ≤ p → r ≡ aborted 7 G.numbers
-        → leaves G r G.records G.marks G.out ≡ step_on first_eight (element bytes) G
-    element_unknown found l is =
-        rw is (halted_tie G s (element bytes) 7 refl refl (element-refusal (sym unmet-place ∙ unmet_missed G.marks place found l) refl))
+    pub element_unknown : {p : ℕ} → p ≡ unmet_at G.marks place → 8192 ≤ p
+        → leaves G (aborted 7 G.numbers) G.records G.marks G.out ≡ step_on first_eight (element bytes) G
+    element_unknown found l =
+        halted_tie G s (element bytes) 7 refl refl (element-refusal (sym unmet-place ∙ unmet_missed G.marks place found l) refl)
 
     module _ (u : Wanted G) where
       check_now : checksum first_eight (table_of G) (gained_in G) ≡ check
@@ -152,9 +152,8 @@ module _ (G : Given) (s : Sound G) where
         unfolding agrees session_of
         agrees_now = ap₂ implies ends (ap (eqb far) (check_now ∙ sym (sum_number check acc sum)) ∙ sym compared) ∙ implies_unless last same
 
-        pub last_differs : {r : Answer} → last && not same ≡ true → r ≡ aborted 8 G.numbers
-            → leaves G r G.records G.marks G.out ≡ step_on first_eight (element bytes) G
-        last_differs e is = rw is (halted_tie G s (element bytes) 8 refl refl (element-refusal u (agrees_now ∙ ap not e)))
+        pub last_differs : last && not same ≡ true → leaves G (aborted 8 G.numbers) G.records G.marks G.out ≡ step_on first_eight (element bytes) G
+        last_differs e = halted_tie G s (element bytes) 8 refl refl (element-refusal u (agrees_now ∙ ap not e))
 
         pub last_sends : {p sent next : ℕ} {r : Answer} {out' : List ℕ} → last && not same ≡ false → p ≡ place
             → says_done first_eight (table_of G) (session_in G) (gained_in G) ≡ true

@@ -20,7 +20,7 @@ use Rattle.session.specs.Moves.{Walk, ask_all}
 use Rattle.session.specs.Ready.{Walked}
 use Rattle.form.specs.Answers.{aborted, changed}
 use Rattle.session.specs.Turns.{MarkTurn, mark_turn, inquiry_turn}
-use Rattle.std.specs.Prelude.{Some}
+use Rattle.std.specs.Prelude.{Ok}
 use Rattle.ledger.proofs.RoomLaws.{offers-room}
 use Rattle.session.proofs.WalkedLaws.{Asked, asked-all}
 
@@ -46,7 +46,7 @@ module _ (table known xs M : List ℕ) {work : List ℕ} (copied : work ≡ take
   not-inquired e = sym (ap (λ (w : Walk). w.fine) same) ∙ e
 
   pub inquired : {work' bytes₀ bytes : List ℕ} {count : ℕ} → 8192 ≤ length M → length bytes₀ ≡ 262144
-      → Walked (ask_all first_eight (hashes_of table) (hashes_of known) xs work) (Some count) work' bytes bytes₀ → Inquired table known xs M count work' bytes
+      → Walked (ask_all first_eight (hashes_of table) (hashes_of known) xs work) (Ok count) work' bytes bytes₀ → Inquired table known xs M count work' bytes
   inquired {work'} {bytes₀} {bytes} {count} room large (walked, marked) = record {
     judged = sym (ap (λ (w : Walk). w.fine) same) ∙ walked.good;
     few = omega (arith, many, kept.few);
@@ -88,12 +88,12 @@ module _ (N : Numbers) (table known : List ℕ) (salt : ℕ) (xs M out : List �
   unfolding inquiry_turn
   decided e f = λ i. cond (sym e i) (cond (sym f i) taken (aborts 7)) (aborts 7)
 
-  pub inquiry-salted : {r : Answer} → (salt ≡ N.salt → ⊥) → r ≡ aborted 7 N → mark_turn r M out ≡ turn
-  inquiry-salted f is = ap (λ (r : Answer). mark_turn r M out) is ∙ decided (ne_eqb salt N.salt f) refl
+  pub inquiry-salted : (salt ≡ N.salt → ⊥) → aborts 7 ≡ turn
+  inquiry-salted f = decided (ne_eqb salt N.salt f) refl
 
   module _ (same : salt ≡ N.salt) where
-    pub inquiry_bad : {r : Answer} → (asked table known xs M).fine ≡ false → r ≡ aborted 7 N → mark_turn r M out ≡ turn
-    inquiry_bad e is = ap (λ (r : Answer). mark_turn r M out) is ∙ decided (eq-eqb salt N.salt same) e
+    pub inquiry_bad : (asked table known xs M).fine ≡ false → aborts 7 ≡ turn
+    inquiry_bad e = decided (eq-eqb salt N.salt same) e
 
     pub inquiry-taken : {count : ℕ} {work bytes : List ℕ} → Inquired table known xs M count work bytes → {r : Answer} {sent : ℕ} {M' out' : List ℕ} → r ≡ answer sent → M' ≡ over 0 work M
         → (sent ≡ 0 + length (layouts (offers_of (hashes_of (take (64 * count) bytes))))) × (out' ≡ over 0 (layouts (offers_of (hashes_of (take (64 * count) bytes)))) out)

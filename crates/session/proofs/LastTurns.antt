@@ -131,14 +131,14 @@ module _ {N : Numbers} {table message : List ℕ} {t : Slice} {cols : Columns} {
   abbrev there : Read
   there = whole_read table message t cols ours theirs
 
-  pub last_untimely : admits_slice N 1 ≡ false → {a : Answer} → a ≡ aborted 5 N → last_turn' a marks inquired (untouched cols ours theirs) out ≡ turn
+  pub last_untimely : admits_slice N 1 ≡ false → last_turn' (aborted 5 N) marks inquired (untouched cols ours theirs) out ≡ turn
   unfolding last_turn
-  last_untimely e q = rw e (ap (λ (x : Answer). last_turn' x marks inquired (untouched cols ours theirs) out) q)
+  last_untimely e = rw e
 
-  pub last_misplaced : admits_slice N 1 ≡ true → is_placed N t.size t.offset t.salt t.width ≡ false → {a : Answer} → a ≡ aborted 4 N
-      → last_turn' a marks inquired (untouched cols ours theirs) out ≡ turn
+  pub last_misplaced : admits_slice N 1 ≡ true → is_placed N t.size t.offset t.salt t.width ≡ false
+      → last_turn' (aborted 4 N) marks inquired (untouched cols ours theirs) out ≡ turn
   unfolding last_turn
-  last_misplaced e k q = rw (e, k) (ap (λ (x : Answer). last_turn' x marks inquired (untouched cols ours theirs) out) q)
+  last_misplaced e k = rw (e, k)
 
   pub last_whole : is_placed N t.size t.offset t.salt t.width ≡ true → Whole table message t cols ours theirs
   last_whole k = record {
@@ -155,10 +155,10 @@ module _ {N : Numbers} {table message : List ℕ} {t : Slice} {cols : Columns} {
   last_read e k = rw (e, k)
 
   module _ {why : Refusal} {after : Read} (d : Ended there table t.size N.swaps (Err why) after) where
-    pub last_stops : admits_slice N 1 ≡ true → is_placed N t.size t.offset t.salt t.width ≡ true → {a : Answer} → a ≡ aborted (refusal_number why) N
-        → last_turn' a marks inquired after out ≡ turn
-    last_stops e k q =
-        ap₂ (λ (x : Answer) (y : Read). last_turn' x marks inquired y out) q d.leaves
+    pub last_stops : admits_slice N 1 ≡ true → is_placed N t.size t.offset t.salt t.width ≡ true
+        → last_turn' (aborted (refusal_number why) N) marks inquired after out ≡ turn
+    last_stops e k =
+        ap (λ (y : Read). last_turn' (aborted (refusal_number why) N) marks inquired y out) d.leaves
         ∙ read-stops N table t.size t.salt there marks inquired out why d.told
         ∙ last_read e k
 

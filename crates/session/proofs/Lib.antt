@@ -12,6 +12,7 @@ pub mod PlaceLaws
 pub mod PlaceTie
 pub mod DemandTie
 pub mod TurnLaws
+pub mod SettledLaws
 pub mod DoneLaws
 pub mod ElementLaws
 pub mod GatheredLaws

@@ -20,7 +20,7 @@ use Rattle.session.specs.declared.offering.Item.TheVariants.{Known, New, Bad}
 use Rattle.session.specs.Moves.{place_of, hash_at_place, item_in, hash_into, News, news_of, is_good, new_one, new_all}
 use Rattle.filter.specs.Sets.{insert}
 use Rattle.session.specs.Ready.{Offered}
-use Rattle.std.specs.Prelude.{Some}
+use Rattle.std.specs.Prelude.{Ok}
 use Rattle.ledger.proofs.PointLaws.{insert-length}
 use Rattle.session.proofs.PlaceLaws.{holds-within, index-within, place_here}
 use Rattle.filter.proofs.SetLaws.{◌∈◌, clash, not_in_nil, elem-insert}
@@ -199,7 +199,7 @@ offering_start table known I active hs fresh hashes = record {
 
 module _ {table known I : List ℕ} {active : Bool} {hs fresh₀ hashes₀ fresh hashes : List ℕ} {m : ℕ} {left : List ℕ}
     (s : Offering table known I active hs fresh₀ hashes₀ fresh hashes m left) where
-  pub offering_end : left ≡ [] → Offered (new_all first_eight (hashes_of table) (hashes_of known) I active hs) (Some m) hashes hashes₀
+  pub offering_end : left ≡ [] → Offered (new_all first_eight (hashes_of table) (hashes_of known) I active hs) (Ok m) hashes hashes₀
   offering_end none =
       let all = going_end s.going none in
       record {

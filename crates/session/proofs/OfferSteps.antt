@@ -16,7 +16,7 @@ use Rattle.ledger.specs.Grid.{ACTIVE}
 use Rattle.ledger.proofs.BelowLaws.{Fit, hashes-written}
 use Rattle.session.specs.Moves.{News, new_all, extra, Stored, stored, store_all}
 use Rattle.session.specs.Ready.{Offered}
-use Rattle.std.specs.Prelude.{Some}
+use Rattle.std.specs.Prelude.{Ok}
 use Rattle.form.specs.Answers.{aborted, changed}
 use Rattle.session.specs.Turns.{OfferTurn, offer_turn', offer_turn}
 use Rattle.ledger.proofs.RoomLaws.{demands-room}
@@ -35,7 +35,7 @@ pub record Found (table known I : List ℕ) (active : Bool) (hs : List ℕ) (cou
   pub room : length (layouts (demands_of (hashes_of (take (64 * count) bytes)))) ≤ 65476
 
 pub found : (table known I : List ℕ) (active : Bool) (hs : List ℕ) {bytes₀ bytes : List ℕ} {count : ℕ} → Fit 512 hs → length bytes₀ ≡ 65472 → count ≤ 1023
-    → Offered (news table known I active hs) (Some count) bytes bytes₀ → Found table known I active hs count bytes
+    → Offered (news table known I active hs) (Ok count) bytes bytes₀ → Found table known I active hs count bytes
 found table known I active hs {bytes₀} {bytes} {count} short large few walked = record {
   judged = walked.good;
   many = walked.count;
@@ -73,11 +73,8 @@ module _ (N : Numbers) (table known I hs : List ℕ) (concerned : ℕ) (R M out 
   unfolding offer_turn
   decided e f = λ i. cond (sym e i) (cond (sym f i) (aborts 10) taken) (aborts 7)
 
-  aborting : {r : Answer} {n : ℕ} → r ≡ aborted n N → offer_turn' r (stored R M) out ≡ aborts n
-  aborting is = ap (λ (r : Answer). offer_turn' r (stored R M) out) is
-
-  pub offer_bad : {r : Answer} → here.fine ≡ false → r ≡ aborted 7 N → offer_turn' r (stored R M) out ≡ turn
-  offer_bad e is = aborting is ∙ decided e refl
+  pub offer_bad : here.fine ≡ false → aborts 7 ≡ turn
+  offer_bad e = decided e refl
 
   module _ {count : ℕ} {bytes : List ℕ} (went : Found table known I (eqb N.state ACTIVE) hs count bytes) where
     module _ {more : ℕ} (counted : more ≡ extra first_eight I (hashes_of (take (64 * count) bytes))) where
@@ -86,8 +83,8 @@ module _ (N : Numbers) (table known I hs : List ℕ) (concerned : ℕ) (R M out 
       too_many_lem f =
           ap₂ (λ (x y : ℕ). ltb 4096 (concerned + x) || ltb 4096 (N.demanded + y)) (sym (counted ∙ ap (extra first_eight I) went.hashes)) (sym went.many) ∙ f
 
-      pub offer-over : {r : Answer} → ltb 4096 (concerned + more) || ltb 4096 (N.demanded + count) ≡ true → r ≡ aborted 10 N → offer_turn' r (stored R M) out ≡ turn
-      offer-over f is = aborting is ∙ decided went.judged (too_many_lem f)
+      pub offer-over : ltb 4096 (concerned + more) || ltb 4096 (N.demanded + count) ≡ true → aborts 10 ≡ turn
+      offer-over f = decided went.judged (too_many_lem f)
 
       pub offer-taken : {r : Answer} {sent : ℕ} {s : Stored} {out' : List ℕ} → ltb 4096 (concerned + more) || ltb 4096 (N.demanded + count) ≡ false
           → r ≡ answer count sent → s ≡ store_all N.demanded (hashes_of (take (64 * count) bytes)) (stored R M)

@@ -6,6 +6,7 @@ use Rattle.bucket.specs.Lists.{over}
 use Rattle.bucket.specs.Columns.{Columns}
 use Rattle.filter.specs.declared.answers.ReadAnswer.{ReadAnswer}
 use Rattle.filter.specs.declared.answers.Refusal.{Refusal}
+use Rattle.filter.specs.declared.answers.Refusal.TheVariants.{Breach}
 use Rattle.filter.specs.Answers.{refusal_number, number_of}
 use Rattle.filter.specs.Calls.{Read, in_range, has_room, read_refusal}
 use Rattle.filter.specs.Table.{first_eight, hashes_of, ids_of, is_table}
@@ -46,19 +47,20 @@ pub record Gathered (fine : Bool) (hashes : List ℕ) (n : ℕ) (bytes bytes₀ 
   pub count : n ≡ length hashes
   pub bytes-are : bytes ≡ over 0 (packed 512 hashes) bytes₀
 
--- what the walk over the IDs of an INQUIRY found: how many hashes it gathered, or none where an ID was bad
-abbrev pub Walked : Walk → Option ℕ → (marks bytes bytes₀ : List ℕ) → Type 0
-Walked w None marks bytes bytes₀ = w.fine ≡ false
-Walked w (Some n) marks bytes bytes₀ = Gathered w.fine w.hashes n bytes bytes₀ × (marks ≡ w.marks)
+-- what the walk over the IDs of an INQUIRY found: how many hashes it gathered, or a breach where an ID was bad
+abbrev pub Walked : Walk → Result ℕ Refusal → (marks bytes bytes₀ : List ℕ) → Type 0
+Walked w (Err r) marks bytes bytes₀ = (r ≡ Breach) × (w.fine ≡ false)
+Walked w (Ok n) marks bytes bytes₀ = Gathered w.fine w.hashes n bytes bytes₀ × (marks ≡ w.marks)
 
--- what the walk over the hashes of a DEMAND found
-abbrev pub Served : Walk → Bool → List ℕ → Type 0
-Served w r marks = (r ≡ w.fine) × (r ≡ true → marks ≡ w.marks)
+-- what the walk over the hashes of a DEMAND found: a breach where a hash was bad
+abbrev pub Served : Walk → Result (Unit {0}) Refusal → List ℕ → Type 0
+Served w (Err r) marks = (r ≡ Breach) × (w.fine ≡ false)
+Served w (Ok u) marks = (w.fine ≡ true) × (marks ≡ w.marks)
 
--- what the walk over the hashes of an OFFER found: the new ones in order, or none where a hash was bad
-abbrev pub Offered : News → Option ℕ → (bytes bytes₀ : List ℕ) → Type 0
-Offered w None bytes bytes₀ = w.fine ≡ false
-Offered w (Some n) bytes bytes₀ = Gathered w.fine w.hashes n bytes bytes₀
+-- what the walk over the hashes of an OFFER found: the new ones in order, or a breach where a hash was bad
+abbrev pub Offered : News → Result ℕ Refusal → (bytes bytes₀ : List ℕ) → Type 0
+Offered w (Err r) bytes bytes₀ = (r ≡ Breach) × (w.fine ≡ false)
+Offered w (Ok n) bytes bytes₀ = Gathered w.fine w.hashes n bytes bytes₀
 
 -- 64 bytes that are a number: a checksum as it is made
 pub record Sum (x : ℕ) (acc : List ℕ) : Type 0 where

@@ -1,6 +1,6 @@
 -- What the functions of slices, INQUIRY, OFFER and DEMAND compute, in the code's own shape: cited by private contracts alone. Nothing here is to be
 -- believed: laws (proofs/*Tie) show that each turn is what `Calls` says of its message. INQUIRY, OFFER and DEMAND are asked once the grid has admitted them.
-use Rattle.std.specs.Prelude.{◌||◌, cond, ℕ, ◌+◌, eqb, ltb, leb, length, get_or, set, take}
+use Rattle.std.specs.Prelude.{◌||◌, cond, Result, Ok, Err, ℕ, ◌+◌, eqb, ltb, leb, length, get_or, set, take}
 use mathlib.Core.List.{List, [], ◌∷◌, ◌++◌, map, foldr}
 use Rattle.std.specs.Int.Bits.{bit_xor}
 use Rattle.bucket.specs.Bucket.{𝟎}
@@ -8,6 +8,7 @@ use Rattle.bucket.specs.Columns.{Columns}
 use Rattle.bucket.specs.Digits.{packed}
 use Rattle.bucket.specs.Lists.{over}
 use Rattle.filter.specs.declared.answers.ReadAnswer.{ReadAnswer}
+use Rattle.filter.specs.declared.answers.Refusal.{Refusal}
 use Rattle.filter.specs.declared.answers.Refusal.TheVariants.{Malformed, OutOfTurn, Breach, Swaps, Limit}
 use Rattle.filter.specs.Answers.{refusal_number}
 use Rattle.filter.specs.Calls.{Read, unread, filled, listed_into}
@@ -25,6 +26,11 @@ use Rattle.ledger.specs.Session.{next_salt, next_size, own_filter, is_complete, 
 use Rattle.ledger.specs.Calls.{numbered, answered}
 use Rattle.form.specs.Answers.{aborted, changed, sliced_numbers, opened_numbers, admits_slice, is_placed}
 use Rattle.session.specs.Moves.{ask_all, serve_all, new_all, extra, Stored, stored, store_all, inserted_all}
+
+-- the answer of a message's function, as the step answers it: a refusal ends the session
+abbrev pub settled : Numbers → Result Answer Refusal → Answer
+settled N (Ok a) = a
+settled N (Err r) = aborted (refusal_number r) N
 
 -- ---- INQUIRY, DEMAND: marks change, and something is written
 

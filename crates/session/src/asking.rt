@@ -5,14 +5,16 @@ ghost use Rattle.filter.specs.Table.{first_eight, hashes_of};
 ghost use Rattle.session.specs.Moves.{ask_all, serve_all};
 ghost use Rattle.session.specs.Ready.{Kept, Served, Walked};
 
-// The IDs of an INQUIRY: those held are marked asked and offered, and their hashes gathered in order. Answers how many, or none for a breach.
+use filter::answers::Refusal;
+
+// The IDs of an INQUIRY: those held are marked asked and offered, and their hashes gathered in order. Answers how many.
 pub(crate) fn ask_all(
     table: &[u8],
     known: &[u8],
     marks: &mut [u8],
     ids: &[u8],
     hashes: &mut [u8],
-) -> Option<usize>
+) -> Result<usize, Refusal>
     requires { Kept table.now known.now marks.old × (length ids.now % 8 ≡ 0) × (262144 ≤ length hashes.old) }
     ensures { Walked (ask_all first_eight (hashes_of table.now) (hashes_of known.now) (unpacked 64 (length ids.now / 8) ids.now) marks.old)
         result marks.new hashes.new hashes.old }
@@ -27,29 +29,29 @@ pub(crate) fn ask_all(
             continue;
         }
         if form::marks::is_asked(marks[p]) || 4096 <= m {
-            return None;
+            return Err(Refusal::Breach);
         }
         marks[p] = marks[p] / 4 * 4 + 3;
         hashes[64 * m..64 * m + 64].copy_from_slice(crate::places::hash_at(table, known, p));
         m += 1;
     }
-    Some(m)
+    Ok(m)
 }
 
 // The hashes of a DEMAND: each must be offered and not served, and is marked served.
-pub(crate) fn serve_all(table: &[u8], known: &[u8], marks: &mut [u8], hashes: &[u8]) -> bool
+pub(crate) fn serve_all(table: &[u8], known: &[u8], marks: &mut [u8], hashes: &[u8]) -> Result<(), Refusal>
     requires { Kept table.now known.now marks.old }
     ensures { Served (serve_all first_eight (hashes_of table.now) (hashes_of known.now) (hashes_of hashes.now) marks.old) result marks.new }
 {
     for hash in hashes.chunks_exact(64) {
         let Some(p) = crate::places::place_of_hash(table, known, hash) else {
-            return false;
+            return Err(Refusal::Breach);
         };
         let m = marks[p];
         if !form::marks::is_offered(m) || form::marks::is_served(m) {
-            return false;
+            return Err(Refusal::Breach);
         }
         marks[p] = m + 4;
     }
-    true
+    Ok(())
 }

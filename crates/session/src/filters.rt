@@ -10,10 +10,10 @@ ghost use Rattle.message.specs.Reading.{content};
 ghost use Rattle.message.specs.Writing.{inquiries_of, offers_of};
 ghost use Rattle.session.specs.Moves.{inserted_all};
 ghost use Rattle.session.specs.Ready.{Opens, Sent, Reads, Lays, Whole, Ended, Fated};
-ghost use Rattle.session.specs.Turns.{mark_all, hashes_at, open_turn, open_turn', slice_turn, slice_turn', last_turn, last_turn', untouched, whole_read};
+ghost use Rattle.session.specs.Turns.{settled, mark_all, hashes_at, open_turn, open_turn', slice_turn, slice_turn', last_turn, last_turn', untouched, whole_read};
 
 use filter::answers::{Reading, Refusal, Unread};
-use ledger::numbers::{Answer, MALFORMED, Numbers, OUT_OF_TURN};
+use ledger::numbers::{Answer, Numbers};
 use message::kinds::Slice;
 
 // What follows a reading after which the session goes on.
@@ -33,20 +33,20 @@ pub(crate) fn on_slice(
     hashes: &mut [u32],
     counts: &mut [i64],
     slice: Slice,
-) -> Answer
+) -> Result<Answer, Refusal>
     requires { Lays message.now (Ibf slice) (columns ids.old hashes.old counts.old) }
-    ensures { slice_turn' result (columns ids.new hashes.new counts.new)
+    ensures { slice_turn' (settled numbers result) (columns ids.new hashes.new counts.new)
         ≡ slice_turn numbers (content (Ibf slice) message.now) slice (columns ids.old hashes.old counts.old) }
 {
     if !form::grid::admits_slice(numbers, message::kinds::Kind::Ibf) {
-        return form::numbers::aborted(OUT_OF_TURN, numbers);
+        return Err(Refusal::OutOfTurn);
     }
     if !form::grid::is_placed(numbers, slice.size, slice.offset, slice.salt, slice.width) {
-        return form::numbers::aborted(MALFORMED, numbers);
+        return Err(Refusal::Malformed);
     }
     message::laying::lay(message, ids, hashes, counts).unwrap();
     let next = form::numbers::sliced(numbers, slice.size, slice.salt, slice.width);
-    form::numbers::answered(0, 0, next)
+    Ok(form::numbers::answered(0, 0, next))
 }
 
 // The slice that completes a filter.
@@ -63,19 +63,19 @@ pub(crate) fn on_last(
     message: &[u8],
     out: &mut [u8],
     slice: Slice,
-) -> Answer
+) -> Result<Answer, Refusal>
     requires { Reads numbers table.now message.now slice (columns ids.old hashes.old counts.old) ours.old theirs.old marks.old inquired.old out.old }
-    ensures { last_turn' result marks.new inquired.new (untouched (columns ids.new hashes.new counts.new) ours.new theirs.new) out.new
+    ensures { last_turn' (settled numbers result) marks.new inquired.new (untouched (columns ids.new hashes.new counts.new) ours.new theirs.new) out.new
         ≡ last_turn numbers table.now (content (IbfLast slice) message.now) slice (columns ids.old hashes.old counts.old) ours.old theirs.old marks.old inquired.old out.old }
 {
     if !form::grid::admits_slice(numbers, message::kinds::Kind::IbfLast) {
-        return form::numbers::aborted(OUT_OF_TURN, numbers);
+        return Err(Refusal::OutOfTurn);
     }
     let Slice { size, salt, .. } = slice;
     if !form::grid::is_placed(numbers, size, slice.offset, salt, slice.width) {
-        return form::numbers::aborted(MALFORMED, numbers);
+        return Err(Refusal::Malformed);
     }
-    match read_whole(
+    let fate = read_whole(
         numbers.swaps,
         table,
         ids,
@@ -85,24 +85,24 @@ pub(crate) fn on_last(
         theirs,
         message,
         slice,
-    ) {
-        Err(why) => form::numbers::aborted(u32::from(why), numbers),
-        Ok(Fate::Opens { ours: a, theirs: b }) => {
+    )?;
+    match fate {
+        Fate::Opens { ours: a, theirs: b } => {
             let ours = &ours[..a];
             let theirs = &theirs[..b];
-            open(
+            Ok(open(
                 numbers, table, marks, inquired, ours, theirs, out, size, salt,
-            )
+            ))
         }
-        Ok(Fate::Swaps { beside }) => {
+        Fate::Swaps { beside } => {
             let next = crate::swapping::swapped(numbers, size, salt);
             let sent = form::sending::send_filter(table, next.size, next.salt, out).unwrap();
-            Answer {
+            Ok(Answer {
                 refusal: beside.map_or(0, u32::from),
                 sent,
                 due: 0,
                 next,
-            }
+            })
         }
     }
 }

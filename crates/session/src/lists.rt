@@ -5,9 +5,10 @@ ghost use Rattle.bucket.specs.Lists.{part};
 ghost use Rattle.filter.specs.Table.{hashes_of};
 ghost use Rattle.session.specs.Moves.{stored};
 ghost use Rattle.session.specs.Ready.{Kept};
-ghost use Rattle.session.specs.Turns.{mark_turn, inquiry_turn, demand_turn, offer_turn, offer_turn'};
+ghost use Rattle.session.specs.Turns.{settled, mark_turn, inquiry_turn, demand_turn, offer_turn, offer_turn'};
 
-use ledger::numbers::{ACTIVE, Answer, BREACH, LIMIT, Numbers};
+use filter::answers::Refusal;
+use ledger::numbers::{ACTIVE, Answer, Numbers};
 
 pub(crate) fn on_inquiry(
     numbers: Numbers,
@@ -18,33 +19,31 @@ pub(crate) fn on_inquiry(
     out: &mut [u8],
     salt: u32,
     n: usize,
-) -> Answer
+) -> Result<Answer, Refusal>
     requires { Kept table.now (take (64 * numbers.demanded) records.now) marks.old × (64 * numbers.demanded ≤ length records.now) × (numbers.demanded ≤ 4096)
         × (8 + 8 * n ≤ length message.now) × (295008 ≤ length out.old) }
-    ensures { mark_turn result marks.new out.new
+    ensures { mark_turn (settled numbers result) marks.new out.new
         ≡ inquiry_turn numbers (hashes_of table.now) (hashes_of (take (64 * numbers.demanded) records.now)) salt (unpacked 64 n (part 8 (8 * n) message.now)) marks.old out.old }
 {
     if salt != numbers.salt {
-        return form::numbers::aborted(BREACH, numbers);
+        return Err(Refusal::Breach);
     }
     let known = &records[..64 * numbers.demanded as usize];
     let mut work = [0u8; 8192];
     work.copy_from_slice(&marks[..8192]);
     let mut hashes = [0u8; 262144];
     let ids = &message[8..8 + 8 * n];
-    let Some(m) = crate::asking::ask_all(table, known, &mut work, ids, &mut hashes) else {
-        return form::numbers::aborted(BREACH, numbers);
-    };
+    let m = crate::asking::ask_all(table, known, &mut work, ids, &mut hashes)?;
     marks[..8192].copy_from_slice(&work);
     let sent = crate::sending::send_offers(&hashes[..64 * m], out, 0);
-    form::numbers::changed(
+    Ok(form::numbers::changed(
         numbers,
         numbers.state,
         numbers.done,
         numbers.demanded,
         sent,
         0,
-    )
+    ))
 }
 
 pub(crate) fn on_demand(
@@ -55,22 +54,27 @@ pub(crate) fn on_demand(
     message: &[u8],
     out: &mut [u8],
     n: usize,
-) -> Answer
+) -> Result<Answer, Refusal>
     requires { Kept table.now (take (64 * numbers.demanded) records.now) marks.old × (64 * numbers.demanded ≤ length records.now) × (numbers.demanded ≤ 4096)
         × (4 + 64 * n ≤ length message.now) × (n ≤ 1023) × (295008 ≤ length out.old) }
-    ensures { mark_turn result marks.new out.new
+    ensures { mark_turn (settled numbers result) marks.new out.new
         ≡ demand_turn numbers (hashes_of table.now) (hashes_of (take (64 * numbers.demanded) records.now)) (unpacked 512 n (part 4 (64 * n) message.now)) marks.old out.old }
 {
     let known = &records[..64 * numbers.demanded as usize];
     let mut work = [0u8; 8192];
     work.copy_from_slice(&marks[..8192]);
     let hashes = &message[4..4 + 64 * n];
-    if !crate::asking::serve_all(table, known, &mut work, hashes) {
-        return form::numbers::aborted(BREACH, numbers);
-    }
+    crate::asking::serve_all(table, known, &mut work, hashes)?;
     marks[..8192].copy_from_slice(&work);
     out[..64 * n].copy_from_slice(hashes);
-    form::numbers::changed(numbers, numbers.state, numbers.done, numbers.demanded, 0, n)
+    Ok(form::numbers::changed(
+        numbers,
+        numbers.state,
+        numbers.done,
+        numbers.demanded,
+        0,
+        n,
+    ))
 }
 
 pub(crate) fn on_offer(
@@ -83,11 +87,11 @@ pub(crate) fn on_offer(
     out: &mut [u8],
     n: usize,
     concerned: usize,
-) -> Answer
+) -> Result<Answer, Refusal>
     requires { Kept table.now (take (64 * numbers.demanded) records.old) marks.old × (262144 ≤ length records.old) × (numbers.demanded ≤ 4096)
         × (numbers.inquired ≤ length inquired.now) × (numbers.inquired ≤ 4096) × (concerned ≤ 4096)
         × (4 + 64 * n ≤ length message.now) × (n ≤ 1023) × (295008 ≤ length out.old) }
-    ensures { offer_turn' result (stored records.new marks.new) out.new
+    ensures { offer_turn' (settled numbers result) (stored records.new marks.new) out.new
         ≡ offer_turn numbers (hashes_of table.now) (hashes_of (take (64 * numbers.demanded) records.old)) (take numbers.inquired inquired.now) (unpacked 512 n (part 4 (64 * n) message.now)) concerned records.old marks.old out.old }
 {
     let demanded = numbers.demanded as usize;
@@ -97,7 +101,7 @@ pub(crate) fn on_offer(
     let offered = &message[4..4 + 64 * n];
     let mut fresh = [0u8; 65472];
     let mut hashes = [0u8; 65472];
-    let Some(m) = crate::offering::new_all(
+    let m = crate::offering::new_all(
         table,
         known,
         inquired,
@@ -105,16 +109,21 @@ pub(crate) fn on_offer(
         offered,
         &mut fresh,
         &mut hashes,
-    ) else {
-        return form::numbers::aborted(BREACH, numbers);
-    };
+    )?;
     let new = &hashes[..64 * m];
     let more = crate::offering::count_extra(new, inquired);
     if 4096 < concerned + more || 4096 < demanded + m {
-        return form::numbers::aborted(LIMIT, numbers);
+        return Err(Refusal::Limit);
     }
     crate::offering::store_all(records, marks, demanded, new);
     let sent = crate::sending::send_demands(new, out, 0);
     let now = (demanded + m) as u32;
-    form::numbers::changed(numbers, numbers.state, numbers.done, now, sent, 0)
+    Ok(form::numbers::changed(
+        numbers,
+        numbers.state,
+        numbers.done,
+        now,
+        sent,
+        0,
+    ))
 }

@@ -1,10 +1,12 @@
 // OFFER: the hashes of a message judged, the new ones gathered, and put among the demanded.
-ghost use Rattle.std.specs.Prelude.{◌≡◌, IfSome, true, cond, ◌+◌, ◌*◌, ◌/◌, ◌≤◌, length};
+ghost use Rattle.std.specs.Prelude.{◌≡◌, IfOk, true, cond, ◌+◌, ◌*◌, ◌/◌, ◌≤◌, length};
 ghost use Rattle.bucket.specs.Digits.{joined};
 ghost use Rattle.filter.specs.Table.{first_eight, hashes_of, is_table};
 ghost use Rattle.session.specs.Moves.{new_all, item_in, extra, stored, store_all};
 ghost use Rattle.session.specs.Ready.{Offered};
 ghost use Rattle.session.specs.declared.offering.Item.TheVariants.{Known, New, Bad};
+
+use filter::answers::Refusal;
 
 // A hash offered.
 #[derive(Drop)]
@@ -16,7 +18,7 @@ pub(crate) enum Item {
     Bad,
 }
 
-// The hashes of an OFFER: the new ones are gathered in order, and `fresh` holds them ascending as they come. Answers how many, or none for a breach.
+// The hashes of an OFFER: the new ones are gathered in order, and `fresh` holds them ascending as they come. Answers how many.
 pub(crate) fn new_all(
     table: &[u8],
     known: &[u8],
@@ -25,17 +27,17 @@ pub(crate) fn new_all(
     offered: &[u8],
     fresh: &mut [u8],
     hashes: &mut [u8],
-) -> Option<usize>
+) -> Result<usize, Refusal>
     requires { (is_table first_eight table.now ≡ true) × (is_table first_eight known.now ≡ true) × (length inquired.now ≤ 4096)
         × (length offered.now ≤ 65472) × (65472 ≤ length fresh.old) × (65472 ≤ length hashes.old) }
     ensures walked { Offered (new_all first_eight (hashes_of table.now) (hashes_of known.now) inquired.now active (hashes_of offered.now))
         result hashes.new hashes.old }
-    ensures few { IfSome result (λ m. 64 * m ≤ length offered.now) }
+    ensures few { IfOk result (λ m. 64 * m ≤ length offered.now) }
 {
     let mut m: usize = 0;
     for hash in offered.chunks_exact(64) {
         match judge_item(table, known, &fresh[..64 * m], inquired, active, hash) {
-            Item::Bad => return None,
+            Item::Bad => return Err(Refusal::Breach),
             Item::New => {
                 crate::inserting::insert_hash(fresh, m, hash);
                 hashes[64 * m..64 * m + 64].copy_from_slice(hash);
@@ -44,7 +46,7 @@ pub(crate) fn new_all(
             Item::Known => {}
         }
     }
-    Some(m)
+    Ok(m)
 }
 
 // One hash offered, judged against the table, the demanded ones and the new ones so far.

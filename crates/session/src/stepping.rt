@@ -7,9 +7,11 @@ ghost use Rattle.message.specs.Walking.{exactly_one};
 ghost use Rattle.ledger.specs.Calls.{given, left, step_call};
 ghost use Rattle.session.specs.Judged.{InForm};
 ghost use Rattle.session.specs.Steps.{LedgerSteps, column_of};
+ghost use Rattle.session.specs.Turns.{settled};
 
+use filter::answers::Refusal;
 use form::tallying::Tally;
-use ledger::numbers::{Answer, MALFORMED, Numbers, OUT_OF_TURN};
+use ledger::numbers::{Answer, Numbers};
 use message::kinds::Message;
 
 // Takes one message in a state, and answers the next state and what is to be sent. Every slice is lent and comes back; specs/Calls says what each
@@ -45,17 +47,14 @@ pub fn step(
         hash.len(),
         out.len(),
     );
-    let refusal = form::rooms::early(judged.is_some(), roomy, numbers.state);
-    let Some(tally) = judged else {
-        return form::numbers::refused(refusal, numbers);
+    let tally = match form::rooms::admit(judged, roomy, numbers.state) {
+        Err(why) => return form::numbers::refused(why, numbers),
+        Ok(tally) => tally,
     };
-    if refusal != 0 {
-        return form::numbers::refused(refusal, numbers);
-    }
     let Some(m) = message::reading::read(message) else {
-        return form::numbers::aborted(MALFORMED, numbers);
+        return form::numbers::aborted(Refusal::Malformed, numbers);
     };
-    match m {
+    let taken = match m {
         Message::Ibf(slice) => {
             crate::filters::on_slice(numbers, message, ids, hashes, counts, slice)
         }
@@ -65,7 +64,8 @@ pub fn step(
         _ => on_ledger(
             numbers, table, records, marks, inquired, hash, message, out, m, tally,
         ),
-    }
+    };
+    taken.unwrap_or_else(|why| form::numbers::aborted(why, numbers))
 }
 
 // The messages that no columns are needed for.
@@ -80,12 +80,12 @@ fn on_ledger(
     out: &mut [u8],
     m: Message,
     tally: Tally,
-) -> Answer
+) -> Result<Answer, Refusal>
     requires { InForm numbers table.now records.old marks.old inquired.now hash.now out.old tally × (exactly_one message.now ≡ Some m) × (is_slice m ≡ false) }
-    ensures { LedgerSteps numbers table.now records.old marks.old inquired.now hash.now message.now out.old m tally result records.new marks.new out.new }
+    ensures { LedgerSteps numbers table.now records.old marks.old inquired.now hash.now message.now out.old m tally (settled numbers result) records.new marks.new out.new }
 {
     if !form::grid::admits(numbers.state, m.kind()) {
-        return form::numbers::aborted(OUT_OF_TURN, numbers);
+        return Err(Refusal::OutOfTurn);
     }
     match m {
         Message::Inquiry { salt, count } => {

@@ -38,7 +38,7 @@ returns-then-ne c = λ I message ours theirs bytes cols s timely u at ends says.
     let a = c.args in
     let here = (goal.at.returns-then-ne c).After-xor_into in
     let G = given a.numbers a.table.now a.records.now a.marks.now I cols ours theirs a.hash.now message a.out.now in
-    last_differs G s timely bytes u ends c.xor_into.new.acc (sum here) (compared here) (and_holds c.if-last.true (sym c.ne.ensures ∙ c.if-ne.true)) c.aborted.ensures
+    last_differs G s timely bytes u ends c.xor_into.new.acc (sum here) (compared here) (and_holds c.if-last.true (sym c.ne.ensures ∙ c.if-ne.true))
 
 pub returns : goal.returns
 returns c = λ I message ours theirs bytes cols s timely u at ends says.

@@ -28,7 +28,7 @@ pub returns-then-numbers : goal.returns-then-numbers
 returns-then-numbers c = λ I hash ours theirs cols s timely count.
     let a = c.args in
     let G = given a.numbers a.table.now a.records.now a.marks.now I cols ours theirs hash a.message.now a.out.now in
-    done-early G s timely a.unmet count c.if-numbers.true c.aborted.ensures
+    done-early G s timely a.unmet count c.if-numbers.true
 
 pub returns-then-numbers-unmet : goal.returns-then-numbers-unmet
 returns-then-numbers-unmet c = λ I hash ours theirs cols s timely count.
@@ -43,7 +43,7 @@ returns-then-ne c = λ I hash ours theirs cols s timely count.
     let a = c.args in
     let G = given a.numbers a.table.now a.records.now a.marks.now I cols ours theirs hash a.message.now a.out.now in
     done_differs G s timely a.unmet count c.if-numbers.false c.if-numbers-unmet.false c.checksum-check.result c.checksum-check.ensures
-    (compared (goal.at.returns-then-ne c).After-checksum-check) (sym c.ne.ensures ∙ c.if-ne.true) c.aborted-then-ne.ensures
+    (compared (goal.at.returns-then-ne c).After-checksum-check) (sym c.ne.ensures ∙ c.if-ne.true)
 
 pub returns-then-numbers-eq-PASSIVE : goal.returns-then-numbers-eq-PASSIVE
 returns-then-numbers-eq-PASSIVE c = λ I hash ours theirs cols s timely count.

@@ -1,5 +1,5 @@
 -- `filters::on_last` meets its contract: a slice that the grid admits and that is placed is read, and what follows is the turn's. Assumes nothing.
-use mathlib.Core.Path.{◌≡◌, sym, subst, ap, ◌∙◌}
+use mathlib.Core.Path.{◌≡◌, refl, sym, subst, ap, ◌∙◌}
 use mathlib.Core.Bool.{true, not}
 use native.Mathlib.Nat.{zero-add}
 use native.Mathlib.Omega.{arith}
@@ -14,18 +14,24 @@ use Rattle.ledger.specs.declared.numbers.Numbers.{Numbers}
 use Rattle.ledger.specs.Session.{own_filter}
 use Rattle.ledger.proofs.FilterRoomLaws.{next_in_range}
 use Rattle.ledger.proofs.SendLaws.{written, not_refused, sent_to}
-use Rattle.form.specs.Answers.{aborted, admits_slice, is_placed}
+use Rattle.form.specs.Answers.{admits_slice, is_placed}
 use Rattle.form.proofs.SendingLaws.{own_filter_there}
+use Rattle.std.specs.Prelude.{Result}
+use Rattle.bucket.specs.Columns.{columns}
+use Rattle.filter.specs.declared.answers.Refusal.{Refusal}
+use Rattle.ledger.specs.declared.numbers.Answer.{Answer}
+use Rattle.session.specs.Turns.{settled, last_turn', untouched}
+use Rattle.session.proofs.SettledLaws.{handed_on}
 use Rattle.session.proofs.LastTurns.{last_untimely, last_misplaced, last_whole, last_stops, opens_ready, last_opens, swaps_ready, last_swaps}
 use lib.Seq.{length-take-le}
 use Rattle.session.proofs.filters.on_last.Goals as goal
 use Rattle.session.proofs.filters.on_last.Goals.{Else-not-is_placed, After-send_filter}
 
 pub returns-then-not-admits_slice : goal.returns-then-not-admits_slice
-returns-then-not-admits_slice c = last_untimely c.requires (test_refused c.admits_slice.ensures (ap not c.if-not-admits_slice.true)) c.aborted.ensures
+returns-then-not-admits_slice c = last_untimely c.requires (test_refused c.admits_slice.ensures (ap not c.if-not-admits_slice.true))
 
 pub returns-then-not-is_placed : goal.returns-then-not-is_placed
-returns-then-not-is_placed c = last_misplaced c.requires (test_granted c.admits_slice.ensures (ap not c.if-not-admits_slice.false)) (test_refused c.is_placed.ensures (ap not c.if-not-is_placed.true)) c.aborted-then-not-is_placed.ensures
+returns-then-not-is_placed c = last_misplaced c.requires (test_granted c.admits_slice.ensures (ap not c.if-not-admits_slice.false)) (test_refused c.is_placed.ensures (ap not c.if-not-is_placed.true))
 
 pub read_whole-requires : goal.read_whole-requires
 read_whole-requires c = last_whole c.requires (test_granted c.is_placed.ensures (ap not c.if-not-is_placed.false))
@@ -34,26 +40,30 @@ read_whole-requires c = last_whole c.requires (test_granted c.is_placed.ensures 
 timely : (c : Else-not-is_placed) → let a = c.args in (admits_slice a.numbers 1 ≡ true) × (is_placed a.numbers a.slice.size a.slice.offset a.slice.salt a.slice.width ≡ true)
 timely c = (test_granted c.admits_slice.ensures (ap not c.if-not-admits_slice.false), test_granted c.is_placed.ensures (ap not c.if-not-is_placed.false))
 
-pub returns-in-Err : goal.returns-in-Err
-returns-in-Err c = let t = timely (goal.at.returns-in-Err c).Else-not-is_placed in
-    last_stops c.requires c.in-Err.ensures t.0 t.1 (c.aborted-in-Err.ensures ∙ ap (λ n. aborted n c.args.numbers) c.from.ensures)
+pub returns-in_err-fate : goal.returns-in_err-fate
+returns-in_err-fate c = let a = c.args in
+    let n = c.read_whole.new in
+    let t = timely (goal.at.returns-in_err-fate c).Else-not-is_placed in
+    ap (λ (r : Result Answer Refusal). last_turn' (settled a.numbers r) a.marks.now a.inquired.now (untouched (columns n.ids n.hashes n.counts) n.ours n.theirs) a.out.now)
+    (handed_on c.from_residual.ensures refl)
+    ∙ last_stops c.requires c.in_err-fate.ensures t.0 t.1
 
 -- the lists are as long as the reading says
 pub slice_bounds-ours-end : goal.slice_bounds-ours-end
-slice_bounds-ours-end c = (opens_ready c.requires (rw c.in-Ok-Opens.field-0-is at c.in-Ok-Opens.ensures)).1
+slice_bounds-ours-end c = (opens_ready c.requires (rw c.in-Opens.is at c.in_ok-fate.ensures)).1
 
 pub slice_bounds-theirs-end : goal.slice_bounds-theirs-end
-slice_bounds-theirs-end c = (opens_ready c.requires (rw c.in-Ok-Opens.field-0-is at c.in-Ok-Opens.ensures)).2
+slice_bounds-theirs-end c = (opens_ready c.requires (rw c.in-Opens.is at c.in_ok-fate.ensures)).2
 
-pub slice_bounds-ours-end-in-Ok-Opens : goal.slice_bounds-ours-end-in-Ok-Opens
-slice_bounds-ours-end-in-Ok-Opens c = sym (length-take-le _ _ (opens_ready c.requires (rw c.in-Ok-Opens.field-0-is at c.in-Ok-Opens.ensures)).1)
+pub slice_bounds-ours-end-in-Opens : goal.slice_bounds-ours-end-in-Opens
+slice_bounds-ours-end-in-Opens c = sym (length-take-le _ _ (opens_ready c.requires (rw c.in-Opens.is at c.in_ok-fate.ensures)).1)
 
-pub slice_bounds-theirs-end-in-Ok-Opens : goal.slice_bounds-theirs-end-in-Ok-Opens
-slice_bounds-theirs-end-in-Ok-Opens c = sym (length-take-le _ _ (opens_ready c.requires (rw c.in-Ok-Opens.field-0-is at c.in-Ok-Opens.ensures)).2)
+pub slice_bounds-theirs-end-in-Opens : goal.slice_bounds-theirs-end-in-Opens
+slice_bounds-theirs-end-in-Opens c = sym (length-take-le _ _ (opens_ready c.requires (rw c.in-Opens.is at c.in_ok-fate.ensures)).2)
 
 pub open-requires : goal.open-requires
 open-requires c =
-    let o = opens_ready c.requires (rw c.in-Ok-Opens.field-0-is at c.in-Ok-Opens.ensures) in (
+    let o = opens_ready c.requires (rw c.in-Opens.is at c.in_ok-fate.ensures) in (
       o.0,
       omega (arith, o.3, length-take-le _ _ o.1),
       omega (arith, o.4, length-take-le _ _ o.2),
@@ -62,12 +72,12 @@ open-requires c =
       o.7,
     )
 
-pub returns-in-Ok-Opens : goal.returns-in-Ok-Opens
-returns-in-Ok-Opens c = let t = timely (goal.at.returns-in-Ok-Opens c).Else-not-is_placed in
-    last_opens c.requires (rw c.in-Ok-Opens.field-0-is at c.in-Ok-Opens.ensures) t.0 t.1 c.open.ensures
+pub returns-in-Opens : goal.returns-in-Opens
+returns-in-Opens c = let t = timely (goal.at.returns-in-Opens c).Else-not-is_placed in
+    last_opens c.requires (rw c.in-Opens.is at c.in_ok-fate.ensures) t.0 t.1 c.open.ensures
 
 pub swapped-next-requires : goal.swapped-next-requires
-swapped-next-requires c = swaps_ready c.requires (rw c.in-Ok-Swaps.field-0-is at c.in-Ok-Swaps.ensures)
+swapped-next-requires c = swaps_ready c.requires (rw c.in-Swaps.is at c.in_ok-fate.ensures)
 
 -- our own filter goes
 went : (c : After-send_filter)
@@ -85,10 +95,10 @@ pub unwrap-sent-requires : goal.unwrap-sent-requires
 unwrap-sent-requires c = let n = c.swapped-next.result in
     not_refused (own_filter (ids_of first_eight c.args.table.now) n.size n.salt) 0 c.args.out.now (went (goal.at.unwrap-sent-requires c).After-send_filter)
 
-pub returns-in-Ok-Swaps : goal.returns-in-Ok-Swaps
-returns-in-Ok-Swaps c = let a = c.args in
+pub returns-in-Swaps : goal.returns-in-Swaps
+returns-in-Swaps c = let a = c.args in
     let n = c.swapped-next.result in
-    let t = timely (goal.at.returns-in-Ok-Swaps c).Else-not-is_placed in
-    let sent = sent_to (own_filter (ids_of first_eight a.table.now) n.size n.salt) 0 a.out.now (went (goal.at.returns-in-Ok-Swaps c).After-send_filter) c.unwrap-sent.ensures in
-    let m : c.map_or.result ≡ number_of c.in-Ok-Swaps.beside = search rules in
-    rw m (last_swaps c.requires (rw c.in-Ok-Swaps.field-0-is at c.in-Ok-Swaps.ensures) t.0 t.1 c.swapped-next.ensures (sent.0 ∙ zero-add _) sent.1)
+    let t = timely (goal.at.returns-in-Swaps c).Else-not-is_placed in
+    let sent = sent_to (own_filter (ids_of first_eight a.table.now) n.size n.salt) 0 a.out.now (went (goal.at.returns-in-Swaps c).After-send_filter) c.unwrap-sent.ensures in
+    let m : c.map_or.result ≡ number_of c.in-Swaps.beside = search rules in
+    rw m (last_swaps c.requires (rw c.in-Swaps.is at c.in_ok-fate.ensures) t.0 t.1 c.swapped-next.ensures (sent.0 ∙ zero-add _) sent.1)

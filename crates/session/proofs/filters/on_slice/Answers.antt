@@ -4,7 +4,6 @@ use Rattle.bucket.specs.Columns.{columns}
 use Rattle.bucket.proofs.TestLaws.{test_refused, test_granted}
 use Rattle.message.specs.declared.kinds.Message.TheVariants.{Ibf}
 use Rattle.message.specs.Reading.{content}
-use Rattle.ledger.specs.declared.numbers.Answer.{Answer}
 use Rattle.ledger.specs.Calls.{answered}
 use Rattle.session.specs.Turns.{slice_turn'}
 use Rattle.session.proofs.LayTurns.{laid_by, lay_goes, slice_untimely, slice_misplaced, slice-laid}
@@ -13,13 +12,11 @@ use Rattle.session.proofs.filters.on_slice.Goals as goal
 
 pub returns-then-not-admits_slice : goal.returns-then-not-admits_slice
 returns-then-not-admits_slice c = let a = c.args in
-    ap (λ (r : Answer). slice_turn' r (columns a.ids.now a.hashes.now a.counts.now)) c.aborted.ensures
-    ∙ slice_untimely a.numbers (content (Ibf a.slice) a.message.now) a.slice (columns a.ids.now a.hashes.now a.counts.now) (test_refused c.admits_slice.ensures (ap not c.if-not-admits_slice.true))
+    slice_untimely a.numbers (content (Ibf a.slice) a.message.now) a.slice (columns a.ids.now a.hashes.now a.counts.now) (test_refused c.admits_slice.ensures (ap not c.if-not-admits_slice.true))
 
 pub returns-then-not-is_placed : goal.returns-then-not-is_placed
 returns-then-not-is_placed c = let a = c.args in
-    ap (λ (r : Answer). slice_turn' r (columns a.ids.now a.hashes.now a.counts.now)) c.aborted-then-not-is_placed.ensures
-    ∙ slice_misplaced a.numbers (content (Ibf a.slice) a.message.now) a.slice (columns a.ids.now a.hashes.now a.counts.now)
+    slice_misplaced a.numbers (content (Ibf a.slice) a.message.now) a.slice (columns a.ids.now a.hashes.now a.counts.now)
     (test_granted c.admits_slice.ensures (ap not c.if-not-admits_slice.false)) (test_refused c.is_placed.ensures (ap not c.if-not-is_placed.true))
 
 pub unwrap-requires : goal.unwrap-requires

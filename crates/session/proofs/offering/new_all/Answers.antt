@@ -57,7 +57,7 @@ judge_item-requires c = let at = (goal.at.judge_item-requires c).In-Some in (
 
 pub returns-in-Bad-clause-walked : goal.returns-in-Bad-clause-walked
 returns-in-Bad-clause-walked c = let at = (goal.at.returns-in-Bad-clause-walked c).In-Some in
-    offering_bad c.loop-hash.invariant.walk (left at) (many at) c.requires.4 c.judge_item.ensures c.in-Bad.is
+    (refl, offering_bad c.loop-hash.invariant.walk (left at) (many at) c.requires.4 c.judge_item.ensures c.in-Bad.is)
 
 pub insert_hash-requires : goal.insert_hash-requires
 insert_hash-requires c = let at = (goal.at.insert_hash-requires c).In-Some in

@@ -34,8 +34,7 @@ admitted c = test_granted (c.admits.ensures ∙ ap (λ (k : Kind). entry c.args.
 pub returns-then-not-admits : goal.returns-then-not-admits
 unfolding given_at
 returns-then-not-admits c = λ ours theirs cols s tally. let G = given_at (goal.at.returns-then-not-admits c).Start ours theirs cols in
-    ap (λ (r : Answer). leaves G r G.records G.marks G.out) c.aborted.ensures
-    ∙ screened_tie G s c.args.m c.requires.2 (test_refused (c.admits.ensures ∙ ap (λ (k : Kind). entry c.args.numbers.state (column k)) c.kind.ensures) (ap not c.if-not-admits.true))
+    screened_tie G s c.args.m c.requires.2 (test_refused (c.admits.ensures ∙ ap (λ (k : Kind). entry c.args.numbers.state (column k)) c.kind.ensures) (ap not c.if-not-admits.true))
 
 pub on_inquiry-requires : goal.on_inquiry-requires
 on_inquiry-requires c = let a = c.args in
