@@ -1,5 +1,5 @@
 -- The ways of a step: what is refused before the message is read, and that behind that everything is in its form. Assumes nothing.
-use mathlib.Core.Path.{◌≡◌, sym, ap, ◌∙◌}
+use mathlib.Core.Path.{◌≡◌, refl, sym, ap, ◌∙◌}
 use mathlib.Core.Bool.{Bool, false, not}
 use mathlib.Core.List.{List, [], ◌∷◌}
 use Prim.Native.Nat.{ℕ}
@@ -9,8 +9,8 @@ use borrow.Author.Tests.{not-true}
 use Rattle.std.specs.Option.{is_some}
 use Rattle.bucket.specs.Digits.{Below}
 use Rattle.filter.specs.declared.answers.Refusal.{Refusal}
-use Rattle.filter.specs.declared.answers.Refusal.TheVariants.{Form, Room, OutOfTurn}
-use Rattle.filter.specs.Answers.{number_of, first_of}
+use Rattle.filter.specs.declared.answers.Refusal.TheVariants.{Form, Room, Range, Malformed, OutOfTurn, FalseReading, Breach, Checksum, Swaps, Limit}
+use Rattle.filter.specs.Answers.{refusal_number, number_of, first_of}
 use Rattle.filter.specs.Calls.{has_room}
 use Rattle.filter.specs.Table.{first_eight}
 use Rattle.message.specs.Walking.{exactly_one}
@@ -27,10 +27,18 @@ use Rattle.form.proofs.TallyLaws.{tally_given}
 abbrev in_order : Given → List (Refusal × Bool)
 in_order G = (Form, good_form first_eight G) ∷ (Room, has_rooms G) ∷ (OutOfTurn, not (is_ended G.numbers.state)) ∷ []
 
--- what has no form is refused
-pub formless : (roomy : Bool) (state : ℕ) {good : Bool} {n : ℕ} → n ≡ early_of good roomy state → good ≡ false → eqb n 0 ≡ false
-unfolding early_of
-formless roomy state e g = ap (λ (n : ℕ). eqb n 0) (e ∙ ap (λ (b : Bool). early_of b roomy state) g)
+-- a refusal's number is none's
+refused_so : (why : Refusal) → eqb (refusal_number why) 0 ≡ false
+refused_so Form = refl
+refused_so Room = refl
+refused_so Range = refl
+refused_so Malformed = refl
+refused_so OutOfTurn = refl
+refused_so FalseReading = refl
+refused_so Breach = refl
+refused_so Checksum = refl
+refused_so Swaps = refl
+refused_so Limit = refl
 
 module _ (G : Given) where
   -- the refusal, by the tests as the code makes them
@@ -48,10 +56,10 @@ module _ (G : Given) where
       ap (λ (b : Bool). number_of (first_of ((Form, b) ∷ (Room, has_rooms G) ∷ (OutOfTurn, not (is_ended G.numbers.state)) ∷ []))) (judged-form G)
 
   -- nothing is changed
-  pub early-refused : {n : ℕ} → n ≡ early_in → eqb n 0 ≡ false
-      → left (answered n 0 0 G.numbers) G.records G.marks G.inquired G.columns G.ours G.theirs G.out ≡ step_call first_eight G
+  pub early-refused : (why : Refusal) → refusal_number why ≡ early_in
+      → left (answered (refusal_number why) 0 0 G.numbers) G.records G.marks G.inquired G.columns G.ours G.theirs G.out ≡ step_call first_eight G
   unfolding step_call
-  early-refused e off = rw (sym (e ∙ early_tie), off)
+  early-refused why e = rw (sym (e ∙ early_tie), refused_so why)
 
   module _ (none : early_in ≡ 0) where
     behind : Passed (in_order G)

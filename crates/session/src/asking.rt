@@ -39,7 +39,12 @@ pub(crate) fn ask_all(
 }
 
 // The hashes of a DEMAND: each must be offered and not served, and is marked served.
-pub(crate) fn serve_all(table: &[u8], known: &[u8], marks: &mut [u8], hashes: &[u8]) -> Result<(), Refusal>
+pub(crate) fn serve_all(
+    table: &[u8],
+    known: &[u8],
+    marks: &mut [u8],
+    hashes: &[u8],
+) -> Result<(), Refusal>
     requires { Kept table.now known.now marks.old }
     ensures { Served (serve_all first_eight (hashes_of table.now) (hashes_of known.now) (hashes_of hashes.now) marks.old) result marks.new }
 {

@@ -67,14 +67,7 @@ pub(crate) fn on_demand(
     crate::asking::serve_all(table, known, &mut work, hashes)?;
     marks[..8192].copy_from_slice(&work);
     out[..64 * n].copy_from_slice(hashes);
-    Ok(form::numbers::changed(
-        numbers,
-        numbers.state,
-        numbers.done,
-        numbers.demanded,
-        0,
-        n,
-    ))
+    Ok(form::numbers::changed(numbers, numbers.state, numbers.done, numbers.demanded, 0, n))
 }
 
 pub(crate) fn on_offer(
@@ -118,12 +111,5 @@ pub(crate) fn on_offer(
     crate::offering::store_all(records, marks, demanded, new);
     let sent = crate::sending::send_demands(new, out, 0);
     let now = (demanded + m) as u32;
-    Ok(form::numbers::changed(
-        numbers,
-        numbers.state,
-        numbers.done,
-        now,
-        sent,
-        0,
-    ))
+    Ok(form::numbers::changed(numbers, numbers.state, numbers.done, now, sent, 0))
 }

@@ -54,13 +54,13 @@ loop-id-preserved-then-not-is_held c = let at = (goal.at.loop-id-preserved-then-
 
 pub returns-then-is_asked : goal.returns-then-is_asked
 returns-then-is_asked c = (
-    refl,
-    asking-stops c.loop-id.invariant.walk (left (goal.at.returns-then-is_asked c).After-number_at) c.in-Some-place_of.ensures.0
-    (sym c.is_held.ensures ∙ c.if-not-is_held.false)
-    (elim c.then-is_asked.branch [
-      | then-is_asked-via-then-is_asked w ↦ ap (λ (t : Bool). t || leb 4096 c.loop-id.m) (sym c.is_asked.ensures ∙ w.if-is_asked.true)
-      | then-is_asked-via-else-is_asked+then-m-ge4096 w ↦ ap₂ ◌||◌ (sym c.is_asked.ensures ∙ w.if-is_asked.false) (le-leb 4096 c.loop-id.m w.if-m-ge4096.true)
-    ]),
+  refl,
+  asking-stops c.loop-id.invariant.walk (left (goal.at.returns-then-is_asked c).After-number_at) c.in-Some-place_of.ensures.0
+      (sym c.is_held.ensures ∙ c.if-not-is_held.false)
+      (elim c.then-is_asked.branch [
+        | then-is_asked-via-then-is_asked w ↦ ap (λ (t : Bool). t || leb 4096 c.loop-id.m) (sym c.is_asked.ensures ∙ w.if-is_asked.true)
+        | then-is_asked-via-else-is_asked+then-m-ge4096 w ↦ ap₂ ◌||◌ (sym c.is_asked.ensures ∙ w.if-is_asked.false) (le-leb 4096 c.loop-id.m w.if-m-ge4096.true)
+      ]),
 )
 
 pub hash_at-requires : goal.hash_at-requires

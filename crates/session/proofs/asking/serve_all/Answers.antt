@@ -40,13 +40,13 @@ returns-in_default c = (refl, serving-nowhere c.loop-hash.invariant.walk (left (
 
 pub returns-then-not-is_offered : goal.returns-then-not-is_offered
 returns-then-not-is_offered c = (
-    refl,
-    serving_unfit c.loop-hash.invariant.walk (left (goal.at.returns-then-not-is_offered c).In-Some) c.in-Some-place_of_hash.ensures.0
-    (elim c.then-not-is_offered.branch [
-      | then-not-is_offered-via-then-not-is_offered w ↦
-          ap (λ (t : Bool). t && not (is_served (get_or c.loop-hash.marks c.in-Some-place_of_hash.p 0))) (sym c.is_offered.ensures ∙ w.if-not-is_offered.true)
-      | then-not-is_offered-via-else-not-is_offered+then-is_served w ↦ and_fails _ (ap not (sym w.is_served.ensures ∙ w.if-is_served.true))
-    ]),
+  refl,
+  serving_unfit c.loop-hash.invariant.walk (left (goal.at.returns-then-not-is_offered c).In-Some) c.in-Some-place_of_hash.ensures.0
+      (elim c.then-not-is_offered.branch [
+        | then-not-is_offered-via-then-not-is_offered w ↦
+            ap (λ (t : Bool). t && not (is_served (get_or c.loop-hash.marks c.in-Some-place_of_hash.p 0))) (sym c.is_offered.ensures ∙ w.if-not-is_offered.true)
+        | then-not-is_offered-via-else-not-is_offered+then-is_served w ↦ and_fails _ (ap not (sym w.is_served.ensures ∙ w.if-is_served.true))
+      ]),
 )
 
 pub overflow_add-marks : goal.overflow_add-marks

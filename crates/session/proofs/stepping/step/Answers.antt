@@ -2,7 +2,7 @@
 -- and what the function of the message leaves is what the definition says of it. Assumes nothing.
 use mathlib.Core.Path.{◌≡◌, refl, sym, ap, ap₂, ◌∙◌, subst}
 use mathlib.Core.Bool.{Bool, false}
-use borrow.Author.Tests.{ne_eqb}
+use Rattle.std.proofs.Common.{rules}
 use Rattle.std.proofs.Common.{Option, Some}
 use Rattle.bucket.specs.Columns.{columns}
 use Rattle.filter.specs.Table.{first_eight}
@@ -19,37 +19,36 @@ use Rattle.std.proofs.Common.{Some}
 use Rattle.form.specs.Answers.{early_of}
 use Rattle.form.proofs.TallyLaws.{tally_given}
 use Rattle.session.specs.Judged.{InForm}
-use Rattle.session.proofs.StepLaws.{early_in, early-refused, formless, said, sound, tally_sound}
+use Rattle.session.proofs.StepLaws.{early_in, early-refused, said, sound, tally_sound}
+use Rattle.session.specs.Turns.{settled}
 use Rattle.session.proofs.InFormLaws.{in_form}
 use Rattle.session.proofs.LastGranted.{slice-lays, last_ready}
 use Rattle.session.proofs.SaidTie.{slice-said, last_said}
 use Rattle.session.proofs.stepping.step.Goals as goal
-use Rattle.session.proofs.stepping.step.Goals.{After-early-refusal, Else-refusal-ne0}
+use Rattle.session.proofs.stepping.step.Goals.{After-admit, In-Ok, in-Ibf, in-IbfLast, in_default-m}
 
 -- what the step is given, where the first refusal is known, and behind it
-abbrev given_first : After-early-refusal → Given
+abbrev given_first : After-admit → Given
 given_first c = let a = c.args in given a.numbers a.table.now a.records.now a.marks.now a.inquired.now (columns a.ids.now a.hashes.now a.counts.now) a.ours.now a.theirs.now a.hash.now a.message.now a.out.now
 
-abbrev given1 : Else-refusal-ne0 → Given
+abbrev given1 : In-Ok → Given
 given1 c = let a = c.args in given a.numbers a.table.now a.records.now a.marks.now a.inquired.now (columns a.ids.now a.hashes.now a.counts.now) a.ours.now a.theirs.now a.hash.now a.message.now a.out.now
 
-first_is : (c : After-early-refusal) → c.early-refusal.result ≡ early_in (given_first c)
-first_is c = c.early-refusal.ensures
-    ∙ ap₂ (λ (g r : Bool). early_of g r (given_first c).numbers.state) (c.is_some.ensures ∙ ap is_some c.judge-judged.ensures.1) c.has_room-roomy.ensures
+first_is : (c : After-admit) → early_of (is_some c.judge-judged.result) c.has_room-roomy.result c.args.numbers.state ≡ early_in (given_first c)
+first_is c = ap₂ (λ (g r : Bool). early_of g r c.args.numbers.state) (ap is_some c.judge-judged.ensures.1) c.has_room-roomy.ensures
 
-none_first : (c : Else-refusal-ne0) → early_in (given1 c) ≡ 0
-none_first c = sym (first_is (goal.at.Else-refusal-ne0 c).After-early-refusal) ∙ c.if-refusal-ne0.false
+none_first : (c : In-Ok) → early_in (given1 c) ≡ 0
+none_first c = sym (c.in-Ok.ensures.refused ∙ first_is (goal.at.In-Ok c).After-admit)
 
-sound-at : (c : Else-refusal-ne0) → Sound (given1 c)
-sound-at c = sound (given1 c) (none_first c) (λ i. (c.slice_known-1.given i).fits) (λ i. (c.slice_known-2-1.given i).fits)
-    (λ i. (c.shared_slice_known-3-1.given i).fits)
+sound-at : (c : In-Ok) → Sound (given1 c)
+sound-at c = sound (given1 c) (none_first c) (λ i. search rules) (λ i. search rules) (λ i. search rules)
 
-said_at : (c : Else-refusal-ne0) → step_said first_eight (exactly_one (given1 c).message) (given1 c) ≡ step_call first_eight (given1 c)
+said_at : (c : In-Ok) → step_said first_eight (exactly_one (given1 c).message) (given1 c) ≡ step_call first_eight (given1 c)
 said_at c = said (given1 c) (none_first c)
 
 -- the tally is the definition's
-tally_at : (c : Else-refusal-ne0) → Some c.in-Some.tally ≡ tally_given (given1 c)
-tally_at c = sym c.in-Some.is ∙ c.judge-judged.ensures.1 ∙ tally_sound (given1 c) (none_first c)
+tally_at : (c : In-Ok) → Some c.in-Ok.tally ≡ tally_given (given1 c)
+tally_at c = sym c.in-Ok.ensures.taken ∙ c.judge-judged.ensures.1 ∙ tally_sound (given1 c) (none_first c)
 
 -- the kinds but these two are no slices
 other : (m : Message) → ((t : Slice) → m ≡ Ibf t → ⊥) → ((t : Slice) → m ≡ IbfLast t → ⊥) → is_slice m ≡ false
@@ -61,51 +60,55 @@ other (Demand n) h k = refl
 other (Element n) h k = refl
 other Done h k = refl
 
--- no tally is refusal 1
-pub returns-in_default : goal.returns-in_default
-returns-in_default c = let G = given_first (goal.at.returns-in_default c).After-early-refusal in
+pub returns-in-Err : goal.returns-in-Err
+returns-in-Err c = let G = given_first (goal.at.returns-in-Err c).After-admit in
     ap (λ (a : Answer). left a G.records G.marks G.inquired G.columns G.ours G.theirs G.out) c.refused.ensures
-    ∙ early-refused G (first_is (goal.at.returns-in_default c).After-early-refusal) (formless c.has_room-roomy.result c.args.numbers.state c.early-refusal.ensures (c.is_some.ensures ∙ ap is_some c.in_default.is))
+    ∙ early-refused G c.in-Err.why (c.in-Err.ensures.refused ∙ first_is (goal.at.returns-in-Err c).After-admit)
 
-pub returns-then-refusal-ne0 : goal.returns-then-refusal-ne0
-returns-then-refusal-ne0 c = let G = given_first (goal.at.returns-then-refusal-ne0 c).After-early-refusal in
-    ap (λ (a : Answer). left a G.records G.marks G.inquired G.columns G.ours G.theirs G.out) c.refused-then-refusal-ne0.ensures
-    ∙ early-refused G (first_is (goal.at.returns-then-refusal-ne0 c).After-early-refusal) (ne_eqb _ 0 c.if-refusal-ne0.true)
-
-pub returns-in_default-read : goal.returns-in_default-read
+pub returns-in_default : goal.returns-in_default
 unfolding step_said
-returns-in_default-read c = let G = given1 (goal.at.returns-in_default-read c).Else-refusal-ne0 in
+returns-in_default c = let o = (goal.at.returns-in_default c).In-Ok in
+    let G = given1 o in
     ap (λ (a : Answer). left a G.records G.marks G.inquired G.columns G.ours G.theirs G.out) c.aborted.ensures
-    ∙ ap (λ (m : Option Message). step_said first_eight m G) (sym c.in_default-read.is ∙ c.read.ensures)
-    ∙ said_at (goal.at.returns-in_default-read c).Else-refusal-ne0
+    ∙ ap (λ (m : Option Message). step_said first_eight m G) (sym c.in_default.is ∙ c.read.ensures)
+    ∙ said_at o
 
-pub on_slice-requires : goal.on_slice-requires
-on_slice-requires c = let o = (goal.at.on_slice-requires c).Else-refusal-ne0 in
-    slice-lays (given1 o) (sound-at o) (Ibf c.in-Ibf.slice) (sym c.read.ensures ∙ c.in-Some-read.is ∙ ap Some c.in-Ibf.is) refl
+pub on_slice-taken-requires : goal.on_slice-taken-requires
+on_slice-taken-requires c = let o = (goal.at.on_slice-taken-requires c).In-Ok in
+    slice-lays (given1 o) (sound-at o) (Ibf c.in-Ibf.slice) (sym c.read.ensures ∙ c.in-Some.is ∙ ap Some c.in-Ibf.is) refl
 
-pub on_last-requires : goal.on_last-requires
-on_last-requires c = let o = (goal.at.on_last-requires c).Else-refusal-ne0 in
-    last_ready (given1 o) (sound-at o) c.in-IbfLast.slice (sym c.read.ensures ∙ c.in-Some-read.is ∙ ap Some c.in-IbfLast.is)
+pub on_last-taken-requires : goal.on_last-taken-requires
+on_last-taken-requires c = let o = (goal.at.on_last-taken-requires c).In-Ok in
+    last_ready (given1 o) (sound-at o) c.in-IbfLast.slice (sym c.read.ensures ∙ c.in-Some.is ∙ ap Some c.in-IbfLast.is)
 
-pub on_ledger-requires : goal.on_ledger-requires
-on_ledger-requires c = let o = (goal.at.on_ledger-requires c).Else-refusal-ne0 in
+pub on_ledger-taken-requires : goal.on_ledger-taken-requires
+on_ledger-taken-requires c = let o = (goal.at.on_ledger-taken-requires c).In-Ok in
     let G = given1 o in (
-      in_form G (sound-at o) c.in-Some.tally (tally_at o),
-      sym c.read.ensures ∙ c.in-Some-read.is,
-      other c.in-Some-read.m c.in_default-m.not-Ibf c.in_default-m.not-IbfLast,
+      in_form G (sound-at o) c.in-Ok.tally (tally_at o),
+      sym c.read.ensures ∙ c.in-Some.is,
+      other c.in-Some.m c.in_default-m.not-Ibf c.in_default-m.not-IbfLast,
     )
 
-pub returns-in-Ibf : goal.returns-in-Ibf
-returns-in-Ibf c = let o = (goal.at.returns-in-Ibf c).Else-refusal-ne0 in
-    slice-said (given1 o) (sound-at o) c.in-Ibf.slice (sym c.read.ensures ∙ c.in-Some-read.is ∙ ap Some c.in-Ibf.is) c.on_slice.ensures ∙ said_at o
-
-pub returns-in-IbfLast : goal.returns-in-IbfLast
-returns-in-IbfLast c = let o = (goal.at.returns-in-IbfLast c).Else-refusal-ne0 in
-    last_said (given1 o) (sound-at o) c.in-IbfLast.slice (sym c.read.ensures ∙ c.in-Some-read.is ∙ ap Some c.in-IbfLast.is) c.on_last.ensures ∙ said_at o
-
-pub returns-in_default-m : goal.returns-in_default-m
-returns-in_default-m c = let o = (goal.at.returns-in_default-m c).Else-refusal-ne0 in
+pub returns : goal.returns
+returns c = let o = (goal.at.returns c).In-Ok in
     let G = given1 o in
-    c.on_ledger.ensures G.ours G.theirs G.columns (sound-at o) (tally_at o)
-    ∙ ap (λ (x : Option Message). step_said first_eight x G) (sym c.in-Some-read.is ∙ c.read.ensures)
-    ∙ said_at o
+    let N = c.args.numbers in
+    let told : c.unwrap_or_else.result ≡ settled N c.match-m.taken = search rules in
+    elim c.match-m.branch [
+      | in-Ibf w ↦
+          (λ i. left ((told ∙ ap (settled N) w.taken-is) i) (w.records-is i) (w.marks-is i) (w.inquired-is i)
+          (columns (w.ids-is i) (w.hashes-is i) (w.counts-is i)) (w.ours-is i) (w.theirs-is i) (w.out-is i))
+          ∙ slice-said G (sound-at o) w.in-Ibf.slice (sym c.read.ensures ∙ c.in-Some.is ∙ ap Some w.in-Ibf.is) w.on_slice-taken.ensures
+          ∙ said_at o
+      | in-IbfLast w ↦
+          (λ i. left ((told ∙ ap (settled N) w.taken-is) i) (w.records-is i) (w.marks-is i) (w.inquired-is i)
+          (columns (w.ids-is i) (w.hashes-is i) (w.counts-is i)) (w.ours-is i) (w.theirs-is i) (w.out-is i))
+          ∙ last_said G (sound-at o) w.in-IbfLast.slice (sym c.read.ensures ∙ c.in-Some.is ∙ ap Some w.in-IbfLast.is) w.on_last-taken.ensures
+          ∙ said_at o
+      | in_default-m w ↦
+          (λ i. left ((told ∙ ap (settled N) w.taken-is) i) (w.records-is i) (w.marks-is i) (w.inquired-is i)
+          (columns (w.ids-is i) (w.hashes-is i) (w.counts-is i)) (w.ours-is i) (w.theirs-is i) (w.out-is i))
+          ∙ w.on_ledger-taken.ensures G.ours G.theirs G.columns (sound-at o) (tally_at o)
+          ∙ ap (λ (x : Option Message). step_said first_eight x G) (sym c.in-Some.is ∙ c.read.ensures)
+          ∙ said_at o
+    ]
