@@ -10,7 +10,6 @@ use Rattle.bucket.specs.Lists.{elem, part}
 use Rattle.filter.specs.Sets.{is_nil}
 use Rattle.filter.specs.Table.{first_eight, hashes_of}
 use Rattle.message.specs.declared.kinds.Message.{Message}
-use Rattle.message.specs.declared.kinds.Message.TheVariants.{Ibf, IbfLast, Inquiry, Offer, Demand, Element, Done}
 use Rattle.message.specs.Kinds.{kind_of}
 use Rattle.message.specs.Layout.{element, done}
 use Rattle.form.specs.Grid.{column}

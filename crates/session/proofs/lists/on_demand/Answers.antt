@@ -4,12 +4,10 @@ use mathlib.Core.List.{List}
 use Prim.Native.Nat.{ℕ, ◌*◌}
 use native.Mathlib.Omega.{arith}
 use Rattle.std.proofs.Common.{rules}
-use lib.ListN.{length, take}
+use lib.ListN.{length}
 use lib.Seq.{length-take-le}
-use Rattle.bucket.specs.Digits.{unpacked}
 use Rattle.bucket.specs.Lists.{over, part}
 use Rattle.bucket.proofs.PackedLaws.{unpacked-length}
-use Rattle.filter.specs.Table.{first_eight, hashes_of}
 use Rattle.std.specs.Prelude.{Result}
 use Rattle.filter.specs.declared.answers.Refusal.{Refusal}
 use Rattle.ledger.specs.declared.numbers.Answer.{Answer}

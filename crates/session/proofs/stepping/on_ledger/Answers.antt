@@ -11,11 +11,9 @@ use Rattle.bucket.proofs.TestLaws.{test_refused, test_granted}
 use Rattle.message.specs.declared.kinds.Kind.{Kind}
 use Rattle.message.specs.declared.kinds.Message.{Message}
 use Rattle.form.specs.Grid.{column}
-use Rattle.ledger.specs.declared.numbers.Answer.{Answer}
 use Rattle.ledger.specs.Grid.{entry}
 use Rattle.ledger.specs.Calls.{Given, given, step_said}
 use Rattle.session.specs.Steps.{column_of}
-use Rattle.session.proofs.TurnLaws.{leaves}
 use Rattle.session.proofs.InFormLaws.{inquiry-asks, offer-asks, demand-asks, done-asks}
 use Rattle.session.proofs.ScreenLaws.{screened_tie}
 use Rattle.session.proofs.LedgerTie.{inquiry-steps, offer-steps, demand-steps, element-steps, done-steps}
