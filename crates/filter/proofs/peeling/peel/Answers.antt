@@ -2,7 +2,7 @@ use mathlib.Core.Path.{◌≡◌, refl, sym, ◌∙◌}
 use mathlib.Core.Logic.{◌⊎◌, inl, inr}
 use mathlib.Core.Bool.{true}
 use mathlib.Core.List.{[], ◌∷◌}
-use Prim.Native.Nat.{◌+◌, ◌<◌}
+use Prim.Native.Nat.{◌<◌}
 use native.Mathlib.Omega.{arith}
 use lib.IntN.{pos}
 use lib.ListN.{length, get_or, length-append}
@@ -76,7 +76,7 @@ loop-b-init c = let a = c.args in
     let r = c.requires in
     let given : Input = record { size = a.size; k = a.k; salt = a.salt; columns = columns a.ids.now a.hashes.now a.counts.now; ours = a.ours.now; theirs = a.theirs.now } in
     rw c.clear.ensures
-    (peeling_start given (record { sound = r.sound; wide = r.wide; ours = r.ours_room; theirs = r.theirs_room; small = r.small }) c.survey-shown.ensures)
+    (peeling_start given (record { sound = r.sound; wide = r.wide; ours = r.ours_room; theirs = r.theirs_room; small = r.small }) c.survey.ensures)
 
 pub overflow_add-looked : goal.overflow_add-looked
 overflow_add-looked c = omega (arith, few c)
