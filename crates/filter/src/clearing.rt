@@ -1,4 +1,5 @@
-// Columns and lists made zero at their start, and counts with their signs turned.
+// Columns and lists made zero at their start, and counts with their signs turned. A length stands beside what is lent, since the contracts
+// say too that what is behind it stays.
 ghost use Rattle.std.specs.Prelude.{◌≡◌, [], ℕ, ◌≤◌, ◌<◌, ◌^◌, length, get_or, pos, nat_abs};
 ghost use Rattle.bucket.specs.Bucket.{𝟎};
 ghost use Rattle.bucket.specs.Columns.{columns};
