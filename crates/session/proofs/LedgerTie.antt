@@ -1,5 +1,5 @@
 -- The messages that are no slices: what each one's function leaves, once the grid admits it, is what the step says of it. Assumes nothing.
-use mathlib.Core.Path.{◌≡◌, sym, ap, subst, ◌∙◌}
+use mathlib.Core.Path.{◌≡◌, ap, ◌∙◌}
 use mathlib.Core.Bool.{true}
 use mathlib.Core.List.{List}
 use Prim.Native.Nat.{ℕ, ◌*◌}
@@ -19,7 +19,7 @@ use Rattle.ledger.proofs.Sound.{Sound}
 use Rattle.form.specs.declared.tallying.Tally.{Tally}
 use Rattle.form.proofs.TallyLaws.{tally_given, tally_concerned, tally_unmet, tally_last, tally_came}
 use Rattle.session.specs.Moves.{stored}
-use Rattle.session.specs.Steps.{Unmet, DoneSteps, LastUnmet, LastCame, ElementSteps}
+use Rattle.session.specs.Steps.{DoneSteps, ElementSteps}
 use Rattle.session.specs.Turns.{MarkTurn, mark_turn, inquiry_turn, demand_turn, OfferTurn, offer_turn, offer_turn'}
 use Rattle.session.proofs.SaidLaws.{items_short, inquiry-said, offer-said, demand-said, done-said}
 use Rattle.session.proofs.TurnLaws.{demanded_in, leaves}

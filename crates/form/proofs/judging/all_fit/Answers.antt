@@ -1,4 +1,4 @@
-use mathlib.Core.Path.{refl, ◌∙◌}
+use mathlib.Core.Path.{refl}
 use native.Mathlib.Omega.{arith}
 use Rattle.form.proofs.AllOfLaws.{all_next, all_end}
 use Rattle.form.proofs.judging.all_fit.Goals as goal

@@ -1,6 +1,6 @@
 -- `stepping::step` meets its contract: what is refused before the message is read is the definition's first refusal; behind that everything is in its form,
 -- and what the function of the message leaves is what the definition says of it. Assumes nothing.
-use mathlib.Core.Path.{◌≡◌, refl, sym, ap, ap₂, ◌∙◌, subst}
+use mathlib.Core.Path.{◌≡◌, refl, sym, ap, ap₂, ◌∙◌}
 use mathlib.Core.Bool.{Bool, false}
 use borrow.Author.Tests.{ne_eqb}
 use Rattle.std.proofs.Common.{Option, Some}
@@ -18,7 +18,6 @@ use Rattle.std.specs.Option.{is_some}
 use Rattle.std.proofs.Common.{Some}
 use Rattle.form.specs.Answers.{early_of}
 use Rattle.form.proofs.TallyLaws.{tally_given}
-use Rattle.session.specs.Judged.{InForm}
 use Rattle.session.proofs.StepLaws.{early_in, early-refused, formless, said, sound, tally_sound}
 use Rattle.session.proofs.InFormLaws.{in_form}
 use Rattle.session.proofs.LastGranted.{slice-lays, last_ready}
