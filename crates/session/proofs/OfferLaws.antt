@@ -48,11 +48,6 @@ module _ (table known fresh I : List ℕ) (active : Bool) (h : ℕ) {id p : ℕ}
       (active && not (holds I x)))
       read (place_here table known h read is))
 
--- the hash that a search found
-pub found-hash : (t : List ℕ) (x : ℕ) {i : ℕ} → (i ≡ position (ids_of first_eight t) x) × (holds (ids_of first_eight t) x ≡ true)
-    → joined 8 (part (64 * i) 64 t) ≡ get_or (hashes_of t) (position (ids_of first_eight t) x) 0
-found-hash t x {i} f = sym (hash_at_lem t i (index-within t x f)) ∙ ap (λ (k : ℕ). get_or (hashes_of t) k 0) f.0
-
 -- ---- the new ones so far, in their order and ascending
 
 pub record Among (g F : List ℕ) : Type 0 where
