@@ -4,19 +4,18 @@ use mathlib.Core.Bool.{true}
 use mathlib.Core.List.{List, [], ◌∷◌, ◌++◌, map-append}
 use Prim.Native.Nat.{ℕ, suc, ◌+◌, ◌*◌, ◌/◌, ◌≤◌, ◌<◌}
 use native.Mathlib.Numerals.{add-one}
-use native.Mathlib.Omega.{arith}
 use lib.ListN.{length, take, drop, get_or, set, length-set, drop_of_length-le}
 use lib.Seq.{drop-cons, take_all, take-suc}
-use Rattle.bucket.specs.Digits.{groups, packed, Below}
-use Rattle.bucket.specs.Lists.{over, part}
+use Rattle.bucket.specs.Digits.{groups, packed}
+use Rattle.bucket.specs.Lists.{over}
 use Rattle.bucket.proofs.ListLaws.{elem_at}
 use Rattle.filter.specs.Table.{first_eight, hashes_of, ids_of, is_table, position}
-use Rattle.filter.proofs.TableLaws.{ids-length, hash_at_lem, held-id}
+use Rattle.filter.proofs.TableLaws.{ids-length, held-id}
 use Rattle.session.specs.Turns.{mark_all, hashes_at}
 use Rattle.session.specs.Ready.{Opens}
 use Rattle.filter.proofs.SetLaws.{◌∈◌}
 use Rattle.filter.proofs.ListLaws.{within_of}
-use Rattle.session.proofs.PlaceLaws.{holds-within, bytes_back}
+use Rattle.session.proofs.PlaceLaws.{holds-within}
 use Rattle.session.proofs.AskLaws.{Gathering, gathering-start, gathering-next}
 
 -- where an element of the table stands, by its ID

@@ -1,13 +1,13 @@
 -- Places: where searches in the table and among the demanded hashes end, what stands at a place, and 64 bytes compared. Assumes nothing.
 use mathlib.Core.Path.{◌≡◌, refl, sym, ap, ap₂, ◌∙◌}
-use mathlib.Core.Bool.{Bool, true, false, not, ◌&&◌, cond, and-eq-true_iff, true≢false}
+use mathlib.Core.Bool.{Bool, true, false, not, ◌&&◌, cond, and-eq-true_iff}
 use mathlib.Core.List.{List, map}
 use Prim.Native.Nat.{ℕ, ◌+◌, ◌-◌, ◌*◌, ◌/◌, ◌^◌, ◌≤◌, ◌<◌}
 use native.Mathlib.Omega.{arith}
 use lib.Dec.{eqb, ltb, leb}
 use lib.ListN.{length, get_or}
 use lib.Seq.{take_all}
-use borrow.Author.Tests.{eqb-true, lt-ltb, le-ltb, ltb-true, ltb-false, le-leb, lt-leb, eq-eqb, ne_eqb}
+use borrow.Author.Tests.{eqb-true, lt-ltb, le-ltb, ltb-true, le-leb, lt-leb, eq-eqb, ne_eqb}
 use Rattle.bucket.specs.Digits.{joined, groups, Below}
 use Rattle.bucket.specs.Lists.{part}
 use Rattle.bucket.proofs.DigitLaws.{groups-below, groups-joined, joined-groups, groups-length}
@@ -16,7 +16,7 @@ use Rattle.bucket.proofs.OverLaws.{part_length}
 use Rattle.bucket.proofs.TestLaws.{and_fails, and_holds, cond-kept, cond-made}
 use Rattle.filter.specs.Table.{hashes_of, first_eight, ids_of, is_table, position, holds}
 use Rattle.filter.proofs.BisectLaws.{holds-there, holds-past}
-use Rattle.filter.proofs.TableLaws.{hashes-length, ids-length, hash_at_lem, table-whole, table-count, first_eight_part}
+use Rattle.filter.proofs.TableLaws.{hashes-length, ids-length, table-whole, table-count, first_eight_part}
 use Rattle.message.proofs.WholeLaws.{part-below}
 use Rattle.ledger.specs.Memory.{is_met}
 use Rattle.session.specs.Moves.{place_of, is_held_at, hash_at_place, place_of_hash, is_unmet_at, unmet_at}
@@ -122,15 +122,6 @@ module _ (M : List ℕ) (p : ℕ) where
   pub held_none : 4096 ≤ p → 8192 ≤ p → false ≡ is_held_at M p
   unfolding is_held_at
   held_none h g = sym (ap₂ (λ (t u : Bool). cond t true (cond u (is_met (get_or M p 0)) false)) (le-ltb p 4096 h) (le-ltb p 8192 g))
-
-  pub held-placed : is_held_at M p ≡ true → p < 8192
-  held-placed e = go (ltb p 8192) refl
-    where
-      go : (t : Bool) → ltb p 8192 ≡ t → p < 8192
-      go true q = ltb-true p 8192 q
-      go false q =
-          let far : 8192 ≤ p = ltb-false p 8192 q in
-          absurd (true≢false (sym e ∙ sym (held_none (omega arith) far)))
 
 -- ---- a demand that is unmet
 

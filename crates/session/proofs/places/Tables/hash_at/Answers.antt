@@ -1,6 +1,5 @@
 -- `places::Tables::hash_at` meets its contract: the definition makes the same test. Assumes nothing.
 use mathlib.Core.Path.{sym, ap, ◌∙◌}
-use native.Mathlib.Omega.{arith}
 use Rattle.bucket.specs.Digits.{groups}
 use Rattle.filter.specs.Table.{hashes_of}
 use Rattle.session.proofs.PlaceLaws.{first-placed, second_placed, hash-first, hash_second}
