@@ -9,7 +9,7 @@ ghost use Rattle.ledger.specs.Memory.{is_met, marked};
 ghost use Rattle.session.specs.Moves.{check_of};
 ghost use Rattle.session.specs.Ready.{Adds};
 
-use crate::places::Tables;
+use crate::places::{RECORDS, Tables};
 
 // The checksum of the table and of the hashes demanded and met.
 pub(crate) fn checksum(tables: Tables, marks: &[u8]) -> [u8; 64]
@@ -18,7 +18,7 @@ pub(crate) fn checksum(tables: Tables, marks: &[u8]) -> [u8; 64]
 {
     let mut acc = [0u8; 64];
     xor_all(&mut acc, tables.table);
-    xor_met(&mut acc, tables.known, &marks[4096..]);
+    xor_met(&mut acc, tables.known, &marks[RECORDS..]);
     acc
 }
 
@@ -47,6 +47,7 @@ pub(crate) fn xor_into(acc: &mut [u8; 64], hash: &[u8])
     requires { length hash.now ≡ 64 }
     ensures { Adds acc.old (joined 8 hash.now) acc.new }
 {
+    // By index, since a proof knows of a slice behind `iter_mut().zip(..)` its length alone.
     for (k, b) in hash.iter().enumerate() {
         acc[k] ^= *b;
     }

@@ -27,8 +27,7 @@ pub(crate) fn new_all(
     fresh: &mut [u8],
     hashes: &mut [u8],
 ) -> Option<usize>
-    requires { (length inquired.now ≤ 4096)
-        × (length offered.now ≤ 65472) × (65472 ≤ length fresh.old) × (65472 ≤ length hashes.old) }
+    requires { (length inquired.now ≤ 4096) × (length offered.now ≤ 65472) × (65472 ≤ length fresh.old) × (65472 ≤ length hashes.old) }
     ensures walked { Offered (new_all first_eight (hashes_of tables.entry.table.now) (hashes_of tables.entry.known.now) inquired.now active (hashes_of offered.now))
         result hashes.new hashes.old }
     ensures few { IfSome result (λ m. 64 * m ≤ length offered.now) }
@@ -73,7 +72,7 @@ fn known_if(same: bool) -> Item
     if same { Item::Known } else { Item::Bad }
 }
 
-// How many of the gathered hashes were not inquired.
+// How many of the gathered hashes were not inquired. A `for`, since the proof of `filter(..).count()` over chunks didn't close: it knows them by index alone.
 pub(crate) fn count_extra(hashes: &[u8], inquired: &[u64]) -> usize
     requires { length inquired.now ≤ 4096 }
     ensures { (result ≡ extra first_eight inquired.now (hashes_of hashes.now)) × (result ≤ length hashes.now / 64) }
