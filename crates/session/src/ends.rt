@@ -29,7 +29,7 @@ pub(crate) fn on_element(
         table,
         known: &records[..64 * numbers.demanded as usize],
     };
-    let Some(p) = tables.unmet_place(marks, &hash[..64]) else {
+    let Some(p) = crate::places::unmet_place(tables, marks, &hash[..64]) else {
         return form::numbers::aborted(BREACH, numbers);
     };
     let last = (numbers.state == WAITING) & (unmet == 1);

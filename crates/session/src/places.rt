@@ -51,18 +51,6 @@ impl<'a> Tables<'a> {
         }
         Some(p)
     }
-
-    // The place of a demanded hash that is unmet.
-    pub(crate) fn unmet_place(self, marks: &[u8], hash: &[u8]) -> Option<usize>
-        requires { (8192 ≤ length marks.now) × (length hash.now ≡ 64) }
-        ensures { IsPlace result (unmet_at marks.now (place_of_hash first_eight (hashes_of self.entry.table.now) (hashes_of self.entry.known.now) (joined 8 hash.now))) }
-    {
-        let p = self.place_of_hash(hash)?;
-        if p < RECORDS || form::marks::is_met(marks[p]) {
-            return None;
-        }
-        Some(p)
-    }
 }
 
 // Which of ascending hashes has an ID.
@@ -91,4 +79,16 @@ pub(crate) fn is_held(marks: &[u8], p: usize) -> bool
     ensures { result ≡ is_held_at marks.now p }
 {
     p < RECORDS || form::marks::is_met(marks[p])
+}
+
+// The place of a demanded hash that is unmet.
+pub(crate) fn unmet_place(tables: Tables, marks: &[u8], hash: &[u8]) -> Option<usize>
+    requires { (8192 ≤ length marks.now) × (length hash.now ≡ 64) }
+    ensures { IsPlace result (unmet_at marks.now (place_of_hash first_eight (hashes_of tables.entry.table.now) (hashes_of tables.entry.known.now) (joined 8 hash.now))) }
+{
+    let p = tables.place_of_hash(hash)?;
+    if p < RECORDS || form::marks::is_met(marks[p]) {
+        return None;
+    }
+    Some(p)
 }

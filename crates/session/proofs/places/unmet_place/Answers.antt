@@ -2,8 +2,8 @@
 use mathlib.Core.Path.{sym, ap, ◌∙◌}
 use Rattle.session.specs.Moves.{unmet_at}
 use Rattle.session.proofs.PlaceLaws.{unmet_outside, unmet_nowhere, unmet-met, unmet-there}
-use Rattle.session.proofs.places.Tables.unmet_place.Goals as goal
-use Rattle.session.proofs.places.Tables.unmet_place.Goals.{then-p-lt-RECORDS-via-then-p-lt-RECORDS, then-p-lt-RECORDS-via-else-p-lt-RECORDS+then-is_met}
+use Rattle.session.proofs.places.unmet_place.Goals as goal
+use Rattle.session.proofs.places.unmet_place.Goals.{then-p-lt-RECORDS-via-then-p-lt-RECORDS, then-p-lt-RECORDS-via-else-p-lt-RECORDS+then-is_met}
 
 pub returns-in_err-p : goal.returns-in_err-p
 returns-in_err-p c = rw c.from_residual.ensures (unmet_nowhere c.args.marks.now _ c.in_err-p.ensures)
