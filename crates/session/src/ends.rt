@@ -3,6 +3,7 @@ ghost use Rattle.std.specs.Prelude.{◌≡◌, ◌*◌, ◌≤◌, ◌<◌, leng
 ghost use Rattle.session.specs.Ready.{Kept};
 ghost use Rattle.session.specs.Steps.{DoneSteps, ElementSteps, LastSteps};
 
+use crate::places::Tables;
 use ledger::numbers::{
     ACTIVE, Answer, BREACH, CHECKSUM, FINISHED, Numbers, OUT_OF_TURN, PASSIVE, WAITING,
 };
@@ -24,8 +25,11 @@ pub(crate) fn on_element(
         × (64 ≤ length hash.now) × (295008 ≤ length out.old) × (came ≤ 8192) }
     ensures { ElementSteps numbers table.now records.now marks.old hash.now out.old came unmet result marks.new out.new }
 {
-    let known = &records[..64 * numbers.demanded as usize];
-    let Some(p) = crate::places::unmet_place(table, known, marks, &hash[..64]) else {
+    let tables = Tables {
+        table,
+        known: &records[..64 * numbers.demanded as usize],
+    };
+    let Some(p) = crate::places::unmet_place(tables, marks, &hash[..64]) else {
         return form::numbers::aborted(BREACH, numbers);
     };
     let last = (numbers.state == WAITING) & (unmet == 1);
@@ -52,8 +56,11 @@ fn last_element(
         × (64 ≤ length hash.now) × (295008 ≤ length out.old) × (p < 8192) }
     ensures { LastSteps numbers table.now records.now marks.old hash.now out.old p last result marks.new out.new }
 {
-    let known = &records[..64 * numbers.demanded as usize];
-    let mut check = crate::checking::checksum(table, known, marks);
+    let tables = Tables {
+        table,
+        known: &records[..64 * numbers.demanded as usize],
+    };
+    let mut check = crate::checking::checksum(tables, marks);
     crate::checking::xor_into(&mut check, &hash[..64]);
     if last && records[FAR..FAR + 64] != check[..] {
         return form::numbers::aborted(CHECKSUM, numbers);
@@ -85,7 +92,11 @@ pub(crate) fn on_done(
         records[FAR..FAR + 64].copy_from_slice(&message[4..68]);
         return form::numbers::changed(numbers, WAITING, numbers.done, d, 0, 0);
     }
-    let check = crate::checking::checksum(table, &records[..64 * d as usize], marks);
+    let tables = Tables {
+        table,
+        known: &records[..64 * d as usize],
+    };
+    let check = crate::checking::checksum(tables, marks);
     if message[4..68] != check[..] {
         return form::numbers::aborted(CHECKSUM, numbers);
     }

@@ -7,6 +7,7 @@ ghost use Rattle.session.specs.Moves.{stored};
 ghost use Rattle.session.specs.Ready.{Kept};
 ghost use Rattle.session.specs.Turns.{mark_turn, inquiry_turn, demand_turn, offer_turn, offer_turn'};
 
+use crate::places::Tables;
 use ledger::numbers::{ACTIVE, Answer, BREACH, LIMIT, Numbers};
 
 pub(crate) fn on_inquiry(
@@ -27,12 +28,15 @@ pub(crate) fn on_inquiry(
     if salt != numbers.salt {
         return form::numbers::aborted(BREACH, numbers);
     }
-    let known = &records[..64 * numbers.demanded as usize];
+    let tables = Tables {
+        table,
+        known: &records[..64 * numbers.demanded as usize],
+    };
     let mut work = [0u8; 8192];
     work.copy_from_slice(&marks[..8192]);
     let mut hashes = [0u8; 262144];
     let ids = &message[8..8 + 8 * n];
-    let Some(m) = crate::asking::ask_all(table, known, &mut work, ids, &mut hashes) else {
+    let Some(m) = crate::asking::ask_all(tables, &mut work, ids, &mut hashes) else {
         return form::numbers::aborted(BREACH, numbers);
     };
     marks[..8192].copy_from_slice(&work);
@@ -61,11 +65,14 @@ pub(crate) fn on_demand(
     ensures { mark_turn result marks.new out.new
         ≡ demand_turn numbers (hashes_of table.now) (hashes_of (take (64 * numbers.demanded) records.now)) (unpacked 512 n (part 4 (64 * n) message.now)) marks.old out.old }
 {
-    let known = &records[..64 * numbers.demanded as usize];
+    let tables = Tables {
+        table,
+        known: &records[..64 * numbers.demanded as usize],
+    };
     let mut work = [0u8; 8192];
     work.copy_from_slice(&marks[..8192]);
     let hashes = &message[4..4 + 64 * n];
-    if !crate::asking::serve_all(table, known, &mut work, hashes) {
+    if !crate::asking::serve_all(tables, &mut work, hashes) {
         return form::numbers::aborted(BREACH, numbers);
     }
     marks[..8192].copy_from_slice(&work);
@@ -91,15 +98,17 @@ pub(crate) fn on_offer(
         ≡ offer_turn numbers (hashes_of table.now) (hashes_of (take (64 * numbers.demanded) records.old)) (take numbers.inquired inquired.now) (unpacked 512 n (part 4 (64 * n) message.now)) concerned records.old marks.old out.old }
 {
     let demanded = numbers.demanded as usize;
-    let known = &records[..64 * demanded];
+    let tables = Tables {
+        table,
+        known: &records[..64 * demanded],
+    };
     let inquired = &inquired[..numbers.inquired as usize];
     let active = numbers.state == ACTIVE;
     let offered = &message[4..4 + 64 * n];
     let mut fresh = [0u8; 65472];
     let mut hashes = [0u8; 65472];
     let Some(m) = crate::offering::new_all(
-        table,
-        known,
+        tables,
         inquired,
         active,
         offered,
