@@ -11,9 +11,12 @@ pub(crate) fn clear_columns(ids: &mut [u64], hashes: &mut [u32], counts: &mut [i
     ensures { columns ids.new hashes.new counts.new
         ≡ filled n (λ i. 𝟎) (columns ids.old hashes.old counts.old) }
 {
-    ids[..n].fill(0);
-    hashes[..n].fill(0);
-    counts[..n].fill(0);
+    // By index, the three at once: three fills call memset, which takes more instructions than the limit of building allows.
+    for i in 0..n {
+        ids[i] = 0;
+        hashes[i] = 0;
+        counts[i] = 0;
+    }
 }
 
 pub(crate) fn clear_list(xs: &mut [u64], n: usize)
