@@ -4,7 +4,7 @@ use Rattle.filter.proofs.TallyLaws.{part_false, part-stuck, part-whole}
 use Rattle.filter.proofs.strata.read_part.Goals as goal
 
 pub returns-in_default-clause-left : goal.returns-in_default-clause-left
-returns-in_default-clause-left c = part_false c.peel-p.ensures.peels c.requires.wide c.in_default.is c.clear_columns.ensures
+returns-in_default-clause-left c = (part_false c.peel-p.ensures.peels c.requires.wide c.in_default.is c.clear_columns.ensures).1
 
 pub returns-then-not-all_zero-clause-listed : goal.returns-then-not-all_zero-clause-listed
 returns-then-not-all_zero-clause-listed c =
