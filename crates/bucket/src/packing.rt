@@ -77,7 +77,7 @@ pub fn unpack(s: &[u8], at: usize, n: usize, w: u32, counts: &mut [i64], from: u
 pub fn number_of(c: i64) -> u64
     ensures { result ≡ number c }
 {
-    u64::try_from(c).unwrap_or(0)
+    c.max(0) as u64
 }
 
 // Packed bit j is bit j mod w, both counted from the highest from 0, of counter j / w; spare bits are zero.

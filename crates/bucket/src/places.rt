@@ -56,7 +56,7 @@ fn fill(taken: &mut [u32], found: usize, size: u32, k: usize)
         if n == k {
             return;
         }
-        if !taken[..n].contains(&c) {
+        if !taken[..n].iter().any(|t| *t == c) {
             taken[n] = c;
             n += 1;
         }

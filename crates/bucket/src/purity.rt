@@ -37,5 +37,5 @@ pub fn is_place(tab: &[u32; 2048], d: u32, i: u32, size: u32, k: usize) -> bool
     ensures { result ≡ elem i (places_by (next_by tab.now) (min 4 k) size d) }
 {
     let n = k.min(4).min(size as usize);
-    n > 0 && (d % size == i || places(tab, d, size, k)[..n].contains(&i))
+    n > 0 && (d % size == i || places(tab, d, size, k)[..n].iter().any(|p| *p == i))
 }

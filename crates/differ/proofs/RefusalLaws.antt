@@ -1,6 +1,6 @@
 -- Behind the tests on the tables and the size, the calls of `filter` refuse nothing but a false reading: `shown` prints a listing or refusal 6.
 -- Assumes nothing.
-use mathlib.Core.Path.{◌≡◌, refl, sym, subst}
+use mathlib.Core.Path.{◌≡◌, refl, sym, ap, subst, ◌∙◌}
 use mathlib.Core.Bool.{true, ◌&&◌, and-eq-true_iff}
 use mathlib.Core.List.{List}
 use mathlib.Core.Logic.{◌⊎◌, inl, inr}
@@ -12,16 +12,19 @@ use borrow.Author.Tests.{leb-true, le-leb}
 use Rattle.bucket.specs.Bucket.{Bucket}
 use Rattle.bucket.specs.Columns.{Columns}
 use Rattle.bucket.proofs.TestLaws.{and_holds}
-use Rattle.filter.specs.declared.answers.Refusal.TheVariants.{None}
+use Rattle.std.specs.Prelude.{None, Result, IsOk}
+use Rattle.std.specs.Result.{result_err}
+use Rattle.filter.specs.declared.answers.Refusal.{Refusal}
+use Rattle.filter.specs.Answers.{number_of}
 use Rattle.filter.specs.declared.answers.Verdict.{Verdict}
 use Rattle.filter.specs.declared.answers.Verdict.TheVariants.{Complete, Stuck, False}
 use Rattle.filter.specs.Filter.{filter_rule, filter_of}
 use Rattle.filter.specs.Table.{first_eight, ids_of, is_table}
 use Rattle.filter.specs.Peeling.{Outcome}
-use Rattle.filter.specs.Calls.{Read, in_range, are_counts, has_room, filled, build_refusal, build_call, read_with, read_refusal, outcome_of, verdict_of}
+use Rattle.filter.specs.Calls.{Build, built, Read, in_range, are_counts, has_room, filled, build_refusal, build_call, read_with, read_refusal, outcome_of, verdict_of}
 use Rattle.filter.specs.Steps.{Wide}
 use Rattle.filter.proofs.FilledLaws.{wide_of, wide-filled}
-use Rattle.filter.proofs.GrantedLaws.{granted-read}
+use Rattle.filter.proofs.GrantedLaws.{granted_is_ok, granted-read}
 use Rattle.filter.proofs.MadeLaws.{made-counts}
 use Rattle.filter.proofs.TableLaws.{ids-length, table-count}
 use Rattle.differ.specs.Report.{blank, received, our_reading}
@@ -45,6 +48,15 @@ module _ (size : ℕ) (a b : List ℕ) (tables : is_table first_eight a && is_ta
   has_room_lem : has_room size blank ≡ true
   unfolding has_room
   has_room_lem = and_holds (le-leb size 512 small) (and_holds (le-leb size 512 small) (le-leb size 512 small))
+
+  build_granted : build_refusal first_eight size 0 b blank ≡ None
+  unfolding build_refusal
+  build_granted = rw (((and-eq-true_iff (is_table first_eight a) (is_table first_eight b)).0 tables).1, in_range_lem, has_room_lem)
+
+  -- so building is not refused
+  pub build_goes : (r : Result Unit Refusal) {c : Columns} → built (number_of (result_err r)) c ≡ build_call first_eight size 0 b blank → IsOk r
+  unfolding build_call
+  build_goes r e = granted_is_ok r (ap (λ (x : Build). x.refusal) e ∙ ap number_of build_granted)
 
   made : ℕ → Bucket
   made = filter_of (filter_rule size 0) (ids_of first_eight b)

@@ -1,5 +1,5 @@
 -- Laws of what an input prints: its parts, the room that a text takes, and what each outcome of a reading prints. Assumes nothing.
-use mathlib.Core.Path.{◌≡◌, sym, ap, ap₂, ◌∙◌}
+use mathlib.Core.Path.{◌≡◌, refl, sym, ap, ap₂, ◌∙◌}
 use mathlib.Core.Bool.{Bool, true, false, ◌&&◌, cond, and-eq-true_iff}
 use mathlib.Core.List.{List}
 use Prim.Native.Nat.{ℕ, ◌+◌, ◌-◌, ◌*◌, ◌^◌, ◌≤◌, ◌<◌}
@@ -8,6 +8,7 @@ use lib.ListN.{length, take, replicate, length-take}
 use lib.Dec.{leb, eqb}
 use lib.Seq.{length-take-le}
 use borrow.Author.Tests.{leb-true, eqb-true, eq-eqb, ne_eqb}
+use Rattle.std.specs.Prelude.{None, Some, Err}
 use Rattle.io.specs.Counts.{IsPrefixLen}
 use Rattle.bucket.specs.Columns.{Columns}
 use Rattle.bucket.specs.Lists.{part}
@@ -15,11 +16,15 @@ use Rattle.bucket.proofs.TestLaws.{cond-kept, cond-made}
 use Rattle.filter.specs.declared.answers.Verdict.{Verdict}
 use Rattle.filter.specs.declared.answers.Verdict.TheVariants.{Complete, Stuck, False}
 use Rattle.filter.specs.declared.answers.ReadAnswer.{ReadAnswer}
-use Rattle.filter.specs.Answers.{refusal_number}
+use Rattle.filter.specs.declared.answers.Refusal.{Refusal}
+use Rattle.filter.specs.declared.answers.Unread.{Unread}
+use Rattle.filter.specs.declared.answers.Unread.TheVariants.{Untrue}
+use Rattle.filter.specs.Answers.{refusal_number, number_of, refusal_of, answer_of}
 use Rattle.filter.specs.Filter.{filter_rule}
 use Rattle.filter.specs.Peeling.{Outcome}
 use Rattle.filter.specs.Table.{first_eight, ids_of, is_table}
 use Rattle.filter.specs.Calls.{Read, built, build_call, answered, unread, read_with, read_by, read_refusal, outcome_of, verdict_of, read_call}
+use Rattle.filter.proofs.GrantedLaws.{number_zero}
 use Rattle.filter.proofs.SideLaws.{sides_length}
 use Rattle.filter.proofs.PeelLaws.{listed-few}
 use Rattle.differ.specs.Text.{ours_label, theirs_label, listing, refusal, Writes}
@@ -78,7 +83,7 @@ unfolding read_call
 few-read size t c o th = go (eqb n 0)
   where
     n : ℕ
-    n = refusal_number (read_refusal first_eight size 0 t c o th)
+    n = number_of (read_refusal first_eight size 0 t c o th)
 
     r : Read
     r = read_by (ids_of first_eight t) size 0 c o th
@@ -99,6 +104,16 @@ pub read_result : (size k : ℕ) (a b : List ℕ) (w : ReadAnswer) (c c' : Colum
 unfolding our_reading received
 read_result size k a b w c c' o th made e =
     e ∙ ap (λ (q : Columns). read_call first_eight size 0 a q (replicate 512 0) (replicate 512 0)) (ap (λ q. q.columns) made)
+
+-- the number of a reading that found nothing, which is not 0
+pub unread_number : (u : Unread) → (answer_of (Err u)).refusal ≡ refusal_number (refusal_of u)
+unread_number Unread.Form = refl
+unread_number Unread.Range = refl
+unread_number Unread.Room = refl
+unread_number (Untrue l) = refl
+
+pub refusal_some : (r : Refusal) → refusal_number r ≡ 0 → ⊥
+refusal_some r e = let none : Some r ≡ None = number_zero (Some r) e in cc
 
 -- what a reading prints
 pub shown-refused : (size n : ℕ) {w : ReadAnswer} {c : Columns} {o th : List ℕ} {r : Read} → answered w c o th ≡ r → n ≡ w.refusal → (n ≡ 0 → ⊥) → refusal n ≡ shown size r

@@ -1,11 +1,13 @@
 // The answer to one input, as text: two tables are compared by filters, as two peers would.
-ghost use Rattle.std.specs.Prelude.{◌&&◌, ◌≡◌, ◌≤◌, ◌<◌, length};
+ghost use Rattle.std.specs.Prelude.{◌&&◌, ◌≡◌, ◌≤◌, ◌<◌, true, leb, length};
 ghost use Rattle.bucket.specs.Digits.{joined};
 ghost use Rattle.bucket.specs.Lists.{part};
 ghost use Rattle.io.specs.Counts.{IsPrefixLen};
 ghost use Rattle.differ.specs.Text.{Writes};
 ghost use Rattle.filter.specs.Table.{first_eight, is_table};
 ghost use Rattle.differ.specs.Report.{is_input, shown, our_reading, compared, Reports};
+
+use filter::answers::Refusal;
 
 // Room for a heading and 512 lines: as many IDs as there are buckets, at most, are listed.
 pub const ROOM: usize = 16384;
@@ -62,16 +64,16 @@ fn are_tables(a: &[u8], b: &[u8]) -> bool
 
 // The received table's filter, then our reading of it. Behind the tests of compare only a false reading is refused.
 fn show(a: &[u8], b: &[u8], size: u32, out: &mut [u8]) -> usize
-    requires { (size ≤ 512) × (16384 ≤ length out.old) }
+    requires { (is_table first_eight a.now && is_table first_eight b.now ≡ true) × (leb 37 size && leb size 512 ≡ true) × (16384 ≤ length out.old) }
     ensures { Writes 0 (shown size (our_reading size a.now b.now)) out.old result out.new }
 {
     let mut ids = [0u64; 512];
     let mut hashes = [0u32; 512];
     let mut counts = [0i64; 512];
-    filter::building::build(b, &mut ids, &mut hashes, &mut counts, size, 0);
+    filter::building::build(b, &mut ids, &mut hashes, &mut counts, size, 0).unwrap();
     let mut ours = [0u64; 512];
     let mut theirs = [0u64; 512];
-    let answer = filter::answers::numbers(filter::reading::read(
+    match filter::reading::read(
         a,
         &mut ids,
         &mut hashes,
@@ -80,11 +82,13 @@ fn show(a: &[u8], b: &[u8], size: u32, out: &mut [u8]) -> usize
         &mut theirs,
         size,
         0,
-    ));
-    if answer.refusal != 0 {
-        return crate::text::put_refusal(out, answer.refusal);
+    ) {
+        Ok(found) => {
+            let complete = u32::from(found.complete);
+            let ours = &ours[..found.ours];
+            let theirs = &theirs[..found.theirs];
+            crate::text::put_listing(out, size, complete, ours, theirs)
+        }
+        Err(unread) => crate::text::put_refusal(out, u32::from(Refusal::from(unread))),
     }
-    let a = answer.ours;
-    let b = answer.theirs;
-    crate::text::put_listing(out, size, answer.complete, &ours[..a], &theirs[..b])
 }

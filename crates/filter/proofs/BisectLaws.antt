@@ -1,13 +1,13 @@
 -- Binary search: its steps, what holds where it ends, and that it finds exactly what stands in an ascending list. Where it ends can also be told
 -- from two neighbours. Assumes nothing.
 use mathlib.Core.Path.{◌≡◌, refl, sym, ap, ◌∙◌}
-use mathlib.Core.Bool.{Bool, true, false, not, ◌&&◌, cond, and-eq-true_iff, true≢false}
+use mathlib.Core.Bool.{Bool, true, false, ◌&&◌, cond, and-eq-true_iff, true≢false}
 use mathlib.Core.List.{List}
 use Prim.Native.Nat.{ℕ, zero, suc, ◌+◌, ◌-◌, ◌/◌, ◌≤◌, ◌<◌}
 use native.Mathlib.Omega.{arith}
 use lib.Dec.{ltb, eqb}
 use lib.ListN.{length, get_or, get_or-eq_default}
-use borrow.Author.Tests.{ltb-true, ltb-false, lt-ltb, le-ltb, eqb-true, eq-eqb, ne_eqb}
+use borrow.Author.Tests.{ltb-true, ltb-false, lt-ltb, le-ltb, eqb-true, eq-eqb}
 use Rattle.bucket.specs.Lists.{elem}
 use Rattle.bucket.proofs.ListLaws.{elem_at, at_index}
 use Rattle.bucket.proofs.TestLaws.{and_holds}
@@ -253,17 +253,6 @@ module _ (l : List ℕ) (a : ℕ) {at : ℕ} (is : at ≡ position l a) where
   holds-there h =
       ap (λ (k : ℕ). eqb (get_or l k 0) a) is
       ∙ sym (ap (λ (t : Bool). t && eqb (get_or l (position l a) 0) a) (lt-ltb (position l a) (length l) (rw is at h)))
-
-  -- it is not below a, so it is a where it is not above
-  pub holds_not_above : at < length l → not (ltb a (get_or l at 0)) ≡ holds l a
-  holds_not_above h = go (ltb a (get_or l at 0)) refl (rw is (position-stops l a (rw is at h))) ∙ holds-there h
-    where
-      go : (t : Bool) → ltb a (get_or l at 0) ≡ t → a ≤ get_or l at 0 → not t ≡ eqb (get_or l at 0) a
-      go true e g = sym (ne_eqb (get_or l at 0) a (apart (ltb-true a (get_or l at 0) e)))
-        where
-          apart : a < get_or l at 0 → get_or l at 0 ≡ a → ⊥
-          apart h q = omega arith
-      go false e g = sym (eq-eqb (get_or l at 0) a (omega (arith, ltb-false a (get_or l at 0) e)))
 
 -- two neighbours that a lies between decide it: a search ends at the second. Past the end is no neighbour, since a is not below 0
 module _ (l : List ℕ) (a p : ℕ) (e : ascending l ≡ true) (low : get_or l p 0 < a) (high : a ≤ get_or l (p + 1) 0) where

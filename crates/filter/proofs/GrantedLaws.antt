@@ -8,7 +8,9 @@ use lib.Dec.{eqb, leb}
 use lib.ListN.{length, take, drop, replicate, length-reverse}
 use lib.Seq.{take_at}
 use borrow.Author.Tests.{eqb-true, leb-true}
-use Rattle.std.specs.Prelude.{Option, None, Some}
+use Rattle.std.specs.Prelude.{Option, None, Some, Result, Ok, Err, IsOk}
+use Rattle.std.specs.Result.{result_err}
+use Rattle.std.proofs.Common.{rules}
 use Rattle.bucket.specs.Columns.{Columns}
 use Rattle.bucket.specs.Lists.{over, pad}
 use Rattle.filter.specs.declared.answers.Refusal.{Refusal}
@@ -50,6 +52,11 @@ number_same {r} {s} e = sym (refusal_back r) ∙ ap refusal_at e ∙ refusal_bac
 
 pub number_zero : (r : Option Refusal) → number_of r ≡ 0 → r ≡ None
 number_zero r e = number_same e
+
+-- a call that answers nothing else, and is not refused
+pub granted_is_ok : (r : Result Unit Refusal) → number_of (result_err r) ≡ 0 → IsOk r
+granted_is_ok (Ok x) e = search rules
+granted_is_ok (Err why) e = let none : Some why ≡ None = number_zero (Some why) e in cc
 
 tests_hold : (a b c : Bool) → first_of ((Form, a) ∷ (Range, b) ∷ (Room, c) ∷ []) ≡ None → (a ≡ true) × (b ≡ true) × (c ≡ true)
 tests_hold true true true e = (refl, refl, refl)

@@ -204,13 +204,8 @@ module _ (s : ℕ) (c : Columns) (h : s < 32) (w : Wide 2528 c) where
   stratum-within : Wide (79 * s + extent s) c
   stratum-within = wide-less (79 * s + extent s) 2528 c (omega (arith, h, extent_is s)) w
 
-  pub stratum-wide : Wide 79 (lent s c)
+  stratum-wide : Wide 79 (lent s c)
   stratum-wide = subst (λ (n : ℕ). Wide n (lent s c)) (extent_is s) (part-wide (79 * s) (extent s) c stratum-within)
-
-  pub stratum-small : (m n : ℕ) → 79 * s + 79 ≤ n → Small n m c → Small 79 m (lent s c)
-  stratum-small m n l t =
-      subst (λ (k : ℕ). Small k m (lent s c)) (extent_is s)
-      (part_small (79 * s) (extent s) c stratum-within m (small-less (79 * s + extent s) n m c (omega (arith, l, extent_is s)) t))
 
   pub view-stratum : (i : ℕ) → i < 79 → view (lent s c) i ≡ stratum s (view c) i
   unfolding stratum

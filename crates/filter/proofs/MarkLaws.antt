@@ -23,19 +23,19 @@ use Rattle.filter.specs.Marks.{lit, but, marks, mark_in, Topped}
 
 -- ---- a bit
 
-pub lit_yes : (w j : ℕ) → bit_at w j ≡ 1 → lit w j ≡ true
+lit_yes : (w j : ℕ) → bit_at w j ≡ 1 → lit w j ≡ true
 unfolding lit
 lit_yes w j e = eq-eqb (bit_at w j) 1 e
 
-pub lit_no : (w j : ℕ) → bit_at w j ≡ 0 → lit w j ≡ false
+lit_no : (w j : ℕ) → bit_at w j ≡ 0 → lit w j ≡ false
 unfolding lit
 lit_no w j e = ne_eqb (bit_at w j) 1 (λ f. omega arith)
 
-pub lit_same : (w v j : ℕ) → bit_at w j ≡ bit_at v j → lit w j ≡ lit v j
+lit_same : (w v j : ℕ) → bit_at w j ≡ bit_at v j → lit w j ≡ lit v j
 unfolding lit
 lit_same w v j e = ap (λ (b : ℕ). eqb b 1) e
 
-pub lit_zero : (j : ℕ) → lit 0 j ≡ false
+lit_zero : (j : ℕ) → lit 0 j ≡ false
 lit_zero j = lit_no 0 j (bit_at-zero j)
 
 module _ (w j i : ℕ) (l : j < 64) where
@@ -55,11 +55,11 @@ module _ (w j i : ℕ) (l : j < 64) where
 
 -- ---- marks, read at a number
 
-pub marks-length : (g : ℕ → Bool) → length (marks g) ≡ 4096
+marks-length : (g : ℕ → Bool) → length (marks g) ≡ 4096
 unfolding marks
 marks-length g = length-map-range_with_len g 0 4096
 
-pub marks-at : (g : ℕ → Bool) (b : ℕ) → b < 4096 → get_or (marks g) b false ≡ g b
+marks-at : (g : ℕ → Bool) (b : ℕ) → b < 4096 → get_or (marks g) b false ≡ g b
 unfolding marks
 marks-at g b l = get_or-map-range_with_len g 0 4096 b b false l (omega arith)
 
@@ -171,13 +171,13 @@ module _ (bits : List ℕ) (top : ℕ) (m : Topped bits top) where
 
   module _ (some : 0 < top) (fit : top < 2 ^ 64) (fits : get_or bits (trailing_zeros w64 top) 0 < 2 ^ 64) where
     -- the first word that is not zero, and its lowest bit
-    abbrev pub word : ℕ
+    abbrev word : ℕ
     word = trailing_zeros w64 top
 
-    abbrev pub bit : ℕ
+    abbrev bit : ℕ
     bit = trailing_zeros w64 (get_or bits word 0)
 
-    pub word_in : word < 64
+    word_in : word < 64
     word_in = (bit_at-trailing_zeros w64 top some fit).0
 
     full : 0 < get_or bits word 0
@@ -187,7 +187,7 @@ module _ (bits : List ℕ) (top : ℕ) (m : Topped bits top) where
         go true z = absurd (true≢false (sym (lit_yes top word (bit_at-trailing_zeros w64 top some fit).1) ∙ m.each word word_in ∙ ap not z))
         go false z = let ne : get_or bits word 0 ≢ 0 = eqb-false (get_or bits word 0) 0 z in omega arith
 
-    pub bit_in : bit < 64
+    bit_in : bit < 64
     bit_in = (bit_at-trailing_zeros w64 (get_or bits word 0) full fits).0
 
     pub least_on : Least (mark_in bits) (word * 64 + bit)

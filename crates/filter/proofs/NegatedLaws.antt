@@ -73,9 +73,6 @@ unfolding negated
 turned-start n cs = record { within = zero-le; turned = refl }
 
 module _ (n : ℕ) (cs₀ cs : List ℤ) (i : ℕ) (k : Turned n cs₀ cs i) where
-  pub turned-length : length cs ≡ length cs₀
-  turned-length = ap length k.turned ∙ negated-length i cs₀
-
   pub turned-end : n ≤ i → cs ≡ negated n cs₀
   turned-end h = k.turned ∙ ap (λ (m : ℕ). negated m cs₀) (omega (arith, h, k.within))
 

@@ -36,8 +36,7 @@ use Rattle.filter.proofs.StrataLaws.{with_stratum-out, view_with_stratum, estima
 
 module _ {q : Outcome} {c₀ c : Columns} {o₀ t₀ : List ℕ} {r : Option Lengths} {o t : List ℕ} (p : Peels 79 q c₀ o₀ t₀ r c o t) (w : Wide 79 c₀) where
   -- a peeling that is not in order leaves a false stratum, which is then made zero
-  pub part_false : {c' : Columns} → r ≡ None → c' ≡ filled 79 (λ i. 𝟎) c
-      → (None ≡ counted q) × (c' ≡ filled 79 (left_by (strata_verdict q) q) c₀)
+  pub part_false : {c' : Columns} → r ≡ None → c' ≡ filled 79 (λ i. 𝟎) c → (None ≡ counted q) × (c' ≡ filled 79 (left_by (strata_verdict q) q) c₀)
   part_false h e = (
     sym (ap (λ (f : Bool). cond (is_complete (verdict_by f (all_zero q.rest 79) true)) (Some (length q.listed)) None) bad),
     e ∙ ap (filled 79 (λ i. 𝟎)) p.kept ∙ filled-filled 79 p.rest (λ i. 𝟎) c₀ w
@@ -68,12 +67,13 @@ module _ {q : Outcome} {c₀ c : Columns} {o₀ t₀ : List ℕ} {r : Option Len
     pub part-whole : z ≡ true → Some (m.ours + m.theirs) ≡ counted q
     part-whole k = ap Some (listed-count o₀ t₀ q.listed o t m.ours m.theirs (p.listed_is m h)) ∙ sym (counted-fine true k)
 
+    -- what it leaves is what its reading leaves
     pub part_left : c ≡ filled 79 (left_by (strata_verdict q) q) c₀
     part_left =
         p.rest_is ok ∙ filled_cong 79 q.rest (left_by (strata_verdict q) q) c₀
         (λ i k. sym (ap (λ (v : Verdict). left_by v q i) verdict-fine ∙ rest i z))
       where
-        rest : (i : ℕ) (x : Bool) → left_by (verdict_by true x true) q i ≡ q.rest i
+        rest : (i : ℕ) (t : Bool) → left_by (verdict_by true t true) q i ≡ q.rest i
         rest i true = refl
         rest i false = refl
 

@@ -1,4 +1,5 @@
-// Columns and lists made zero at their start, and counts with their signs turned.
+// Columns and lists made zero at their start, and counts with their signs turned. A length stands beside what is lent, since the contracts
+// say too that what is behind it stays.
 ghost use Rattle.std.specs.Prelude.{◌≡◌, [], ℕ, ◌≤◌, ◌<◌, ◌^◌, length, get_or, pos, nat_abs};
 ghost use Rattle.bucket.specs.Bucket.{𝟎};
 ghost use Rattle.bucket.specs.Columns.{columns};
@@ -10,9 +11,12 @@ pub(crate) fn clear_columns(ids: &mut [u64], hashes: &mut [u32], counts: &mut [i
     ensures { columns ids.new hashes.new counts.new
         ≡ filled n (λ i. 𝟎) (columns ids.old hashes.old counts.old) }
 {
-    ids[..n].fill(0);
-    hashes[..n].fill(0);
-    counts[..n].fill(0);
+    // By index, the three at once: three fills call memset, which takes more instructions than the limit of building allows.
+    for i in 0..n {
+        ids[i] = 0;
+        hashes[i] = 0;
+        counts[i] = 0;
+    }
 }
 
 pub(crate) fn clear_list(xs: &mut [u64], n: usize)

@@ -38,8 +38,12 @@ pub(crate) fn all_zero(ids: &[u64], hashes: &[u32], counts: &[i64], n: usize) ->
     ensures { result ≡ all_zero (view (columns ids.now hashes.now counts.now)) n }
 {
     let no_id = ids[..n].iter().fold(true, |zero, id| zero & (*id == 0));
-    let no_hash = hashes[..n].iter().fold(true, |zero, hash| zero & (*hash == 0));
-    let no_count = counts[..n].iter().fold(true, |zero, count| zero & (*count == 0));
+    let no_hash = hashes[..n]
+        .iter()
+        .fold(true, |zero, hash| zero & (*hash == 0));
+    let no_count = counts[..n]
+        .iter()
+        .fold(true, |zero, count| zero & (*count == 0));
     no_id & no_hash & no_count
 }
 

@@ -1,6 +1,6 @@
 // The set of buckets that look pure, as bits: 64 words, and a word that says which of them are not zero.
 // The least number of the set is found by two counts of trailing zeros.
-ghost use Rattle.std.specs.Prelude.{◌≡◌, not, false, ℕ, ◌<◌, ◌==◌, set, position};
+ghost use Rattle.std.specs.Prelude.{◌≡◌, false, ℕ, ◌<◌, set, position};
 ghost use Rattle.filter.specs.Marks.{lit, but, marks};
 
 use std::marker::Model;
@@ -13,7 +13,7 @@ pub(crate) struct Marks {
 
 // Clauses see 4,096 marks, each on or off.
 impl Model for Marks {
-    ghost use Rattle.std.specs.Prelude.{List, Bool, get_or};
+    ghost use Rattle.std.specs.Prelude.{List, Bool};
     ghost use Rattle.filter.specs.Marks.{marks, mark_in, Topped};
 
     ghost Value = { List Bool };

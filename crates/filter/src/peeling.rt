@@ -1,6 +1,6 @@
 // Peeling: the lowest bucket that looks pure is listed and taken out of its places, again and again. The buckets that look pure
 // are kept as a set, changed only where a peel touches, and repeated IDs are found in trees.
-ghost use Rattle.std.specs.Prelude.{◌≡◌, List, ◌∷◌, ℕ, ◌<◌, ◌≤◌, ◌^◌, nat_abs, length, IsTrue};
+ghost use Rattle.std.specs.Prelude.{◌≡◌, false, List, ◌∷◌, ℕ, ◌<◌, ◌≤◌, ◌^◌, nat_abs, length, IsTrue};
 ghost use Rattle.bucket.specs.Bucket.{bucket, neg, ◌⊕◌, is_one};
 ghost use Rattle.bucket.specs.Columns.{columns, view, place};
 ghost use Rattle.bucket.specs.Crc.{crc_tables};
@@ -54,7 +54,8 @@ pub(crate) fn peel(
     ensures looked { result.looked ≡ looked (rule k size salt) (view (columns ids.old hashes.old counts.old)) }
 {
     let n = size as usize;
-    let mut shown = survey(tab, ids, hashes, counts, size, k);
+    let mut shown = Marks::new();
+    survey(tab, ids, hashes, counts, &mut shown, size, k);
     trees.clear();
     let mut listed = Lengths { ours: 0, theirs: 0 };
     let mut looked: usize = 0;
@@ -82,27 +83,27 @@ pub(crate) fn peel(
     }
 }
 
-// The buckets that look pure, at the start.
+// Marks the buckets that look pure, where none is marked.
 fn survey(
     tab: &[u32; 2048],
     ids: &[u64],
     hashes: &[u32],
     counts: &[i64],
+    shown: &mut Marks,
     size: u32,
     k: usize,
-) -> Marks
+)
     requires tables { tab.now ≡ crc_tables }
     requires sound { Sound size k 0 }
     requires wide { Wide size (columns ids.now hashes.now counts.now) }
-    ensures { result ≡ marks (shows (rule k size 0) (view (columns ids.now hashes.now counts.now))) }
+    requires none { shown.old ≡ marks (λ b. false) }
+    ensures { shown.new ≡ marks (shows (rule k size 0) (view (columns ids.now hashes.now counts.now))) }
 {
-    let mut shown = Marks::new();
     for b in 0..size as usize {
         if looks_pure(tab, ids, hashes, counts, b, size, k) {
             shown.mark(b, true);
         }
     }
-    shown
 }
 
 // Takes an element out of all its buckets.
@@ -168,6 +169,7 @@ fn settle(
 }
 
 // Whether bucket b looks pure. Most counts are not one, which settles it without a call.
+#[inline(always)]
 fn looks_pure(
     tab: &[u32; 2048],
     ids: &[u64],

@@ -29,7 +29,8 @@ impl Model for Trees {
 }
 
 impl Trees {
-    // None is noted.
+    // None is noted. Inlined, so that 56 KB are made in place and not copied.
+    #[inline(always)]
     pub(crate) fn new() -> Trees
         ensures { result ≡ [] }
     {
@@ -62,8 +63,7 @@ impl Trees {
         ensures noted { self.new ≡ cond result (self.old ++ v ∷ []) self.old }
     {
         let n = self.n;
-        let p = find(&self.heads, &self.links, &self.seen[..n], v);
-        match p {
+        match find(&self.heads, &self.links, &self.seen[..n], v) {
             Place::Noted => return false,
             Place::Head => self.heads[(v % 4096) as usize] = (n + 1) as u16,
             Place::Link(at) => self.links[at] = (n + 1) as u16,

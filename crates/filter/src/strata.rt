@@ -26,6 +26,7 @@ pub(crate) fn subtract(
         ≡ filled n (less (view (columns ids.old hashes.old counts.old)) (view (columns ids2.now hashes2.now counts2.now)))
         (columns ids.old hashes.old counts.old) }
 {
+    // By index: of what is written through a zip over iter_mut, a proof knows nothing.
     for i in 0..n {
         ids[i] ^= ids2[i];
         hashes[i] ^= hashes2[i];

@@ -16,28 +16,28 @@ pub extern "C" fn tandawire_inquiry_write(
 ) -> Written
     ensures { left result out.new ≡ write_numbers (inquiry_call salt ids.now at out.old) }
 {
-    message::kinds::write_numbers(message::writing::inquiry(ids, salt, out, at))
+    Written::from(message::writing::inquiry(ids, salt, out, at))
 }
 
 #[unsafe(no_mangle)]
 pub extern "C" fn tandawire_offer_write(hashes: &[u8], out: &mut [u8], at: usize) -> Written
     ensures { left result out.new ≡ write_numbers (hashes_call offers_of hashes.now at out.old) }
 {
-    message::kinds::write_numbers(message::writing::offer(hashes, out, at))
+    Written::from(message::writing::offer(hashes, out, at))
 }
 
 #[unsafe(no_mangle)]
 pub extern "C" fn tandawire_demand_write(hashes: &[u8], out: &mut [u8], at: usize) -> Written
     ensures { left result out.new ≡ write_numbers (hashes_call demands_of hashes.now at out.old) }
 {
-    message::kinds::write_numbers(message::writing::demand(hashes, out, at))
+    Written::from(message::writing::demand(hashes, out, at))
 }
 
 #[unsafe(no_mangle)]
 pub extern "C" fn tandawire_done_write(check: &[u8], out: &mut [u8], at: usize) -> Written
     ensures { left result out.new ≡ write_numbers (done_call check.now at out.old) }
 {
-    message::kinds::write_numbers(message::writing::done(check, out, at))
+    Written::from(message::writing::done(check, out, at))
 }
 
 #[unsafe(no_mangle)]

@@ -3,7 +3,7 @@ use mathlib.Core.Path.{◌≡◌, refl, sym, ap, ap₂, ◌∙◌}
 use mathlib.Core.Bool.{Bool, true, false, not}
 use mathlib.Core.List.{List, [], ◌∷◌, map}
 use Prim.Native.Nat.{ℕ, ◌+◌, ◌*◌, ◌≤◌}
-use native.Mathlib.Nat.{zero-add, add-zero}
+use native.Mathlib.Nat.{add-zero}
 use native.Mathlib.Omega.{arith}
 use lib.ListN.{length, take}
 use Rattle.bucket.specs.Digits.{groups}
@@ -21,9 +21,6 @@ uninquired I x = not (holds I x)
 pub record Counting (I hs : List ℕ) (n : ℕ) (left : List ℕ) : Type 0 where
   pub most : n + length left ≤ length hs
   pub rest : n + extra first_eight I left ≡ extra first_eight I hs
-
-pub counting-start : (I hs : List ℕ) → Counting I hs 0 hs
-counting-start I hs = record { most = omega arith; rest = zero-add (extra first_eight I hs) }
 
 module _ {I hs left : List ℕ} {n : ℕ} (s : Counting I hs n left) where
   pub counting-end : left ≡ [] → (n ≡ extra first_eight I hs) × (n ≤ length hs)

@@ -17,7 +17,7 @@ use Rattle.filter.specs.Calls.{Read, unread, has_room, read_call, clear_call}
 use Rattle.filter.specs.Steps.{Wide}
 use Rattle.filter.specs.Table.{first_eight, hashes_of, ids_of}
 use Rattle.filter.proofs.FilledLaws.{wide_of}
-use Rattle.filter.proofs.GrantedLaws.{number_zero}
+use Rattle.filter.proofs.GrantedLaws.{granted_is_ok}
 use Rattle.filter.proofs.PartLaws.{range-sound}
 use Rattle.message.specs.declared.kinds.Message.TheVariants.{IbfLast}
 use Rattle.message.specs.declared.kinds.Slice.{Slice}
@@ -32,7 +32,6 @@ use Rattle.ledger.specs.Calls.{answered}
 use Rattle.form.specs.Answers.{aborted, admits_slice, is_placed}
 use Rattle.session.specs.Turns.{OpenTurn, open_turn, open_turn', swapped_numbers, LastTurn, last_turn, last_turn', fate_of, untouched, wiped, kept, whole_read, read_turn}
 use Rattle.session.specs.Ready.{Opens, Reads, Whole, Fated, Ended}
-use Rattle.session.proofs.LayTurns.{not_refused}
 use Rattle.session.proofs.OpensLaws.{Listing, listing, call_reads, reading-opens}
 
 -- ---- what is cleared
@@ -56,7 +55,7 @@ module _ {table message : List ℕ} {t : Slice} {cols : Columns} {ours theirs : 
 
 pub wipes_goes : (size : ℕ) (r : Read) (x : Result Unit Refusal) {c : Columns} {o th : List ℕ} → unread (number_of (result_err x)) c o th ≡ clear_call size r.columns r.ours r.theirs
     → clear_call size r.columns r.ours r.theirs ≡ wiped size r → IsOk x
-wipes_goes size r x e w = not_refused x (number_zero (result_err x) (ap (λ (y : Read). y.answer.refusal) (e ∙ w)))
+wipes_goes size r x e w = granted_is_ok x (ap (λ (y : Read). y.answer.refusal) (e ∙ w))
 
 -- ---- the reading, and what it leaves
 

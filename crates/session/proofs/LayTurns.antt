@@ -10,9 +10,10 @@ use Rattle.std.proofs.Common.{Option, Some}
 use Rattle.bucket.specs.Columns.{Columns}
 use Rattle.bucket.proofs.TestLaws.{and_holds}
 use Rattle.filter.specs.declared.answers.Refusal.{Refusal}
-use Rattle.std.specs.Prelude.{Option, None, Result, Ok, Err, IsOk}
+use Rattle.filter.specs.Answers.{number_of}
+use Rattle.filter.proofs.GrantedLaws.{granted_is_ok}
+use Rattle.std.specs.Prelude.{Option, None, Result, IsOk}
 use Rattle.std.specs.Result.{result_err}
-use Rattle.std.proofs.Common.{rules}
 use Rattle.filter.specs.Calls.{has_room}
 use Rattle.filter.specs.Steps.{Wide}
 use Rattle.filter.proofs.FilledLaws.{wide_of}
@@ -63,12 +64,8 @@ lays message m c l =
 pub laid_by : {message : List ℕ} {m : Message} {c d : Columns} {r : Option Refusal} → Lays message m c → lay r d ≡ lay_call message c → d ≡ laid (content m message) c
 laid_by {message} {m} {c} l e = ap (λ (y : Lay). y.columns) (e ∙ lays message m c l)
 
-pub not_refused : (r : Result Unit Refusal) → result_err r ≡ None → IsOk r
-not_refused (Ok x) e = search rules
-not_refused (Err y) e = cc
-
 pub lay_goes : {message : List ℕ} {m : Message} {c d : Columns} (r : Result Unit Refusal) → Lays message m c → lay (result_err r) d ≡ lay_call message c → IsOk r
-lay_goes {message} {m} {c} r l e = not_refused r (ap (λ (y : Lay). y.refusal) (e ∙ lays message m c l))
+lay_goes {message} {m} {c} r l e = granted_is_ok r (ap (λ (y : Lay). number_of y.refusal) (e ∙ lays message m c l))
 
 -- ---- a slice that is not the last
 

@@ -4,19 +4,18 @@ use mathlib.Core.Bool.{true}
 use mathlib.Core.List.{List, [], ◌∷◌, ◌++◌, map-append}
 use Prim.Native.Nat.{ℕ, suc, ◌+◌, ◌*◌, ◌/◌, ◌≤◌, ◌<◌}
 use native.Mathlib.Numerals.{add-one}
-use native.Mathlib.Omega.{arith}
 use lib.ListN.{length, take, drop, get_or, set, length-set, drop_of_length-le}
 use lib.Seq.{drop-cons, take_all, take-suc}
-use Rattle.bucket.specs.Digits.{groups, packed, Below}
-use Rattle.bucket.specs.Lists.{over, part}
+use Rattle.bucket.specs.Digits.{groups, packed}
+use Rattle.bucket.specs.Lists.{over}
 use Rattle.bucket.proofs.ListLaws.{elem_at}
 use Rattle.filter.specs.Table.{first_eight, hashes_of, ids_of, is_table, position}
-use Rattle.filter.proofs.TableLaws.{ids-length, hash_at_lem, held-id}
+use Rattle.filter.proofs.TableLaws.{ids-length, held-id}
 use Rattle.session.specs.Turns.{mark_all, hashes_at}
 use Rattle.session.specs.Ready.{Opens}
 use Rattle.filter.proofs.SetLaws.{◌∈◌}
 use Rattle.filter.proofs.ListLaws.{within_of}
-use Rattle.session.proofs.PlaceLaws.{holds-within, bytes_back}
+use Rattle.session.proofs.PlaceLaws.{holds-within}
 use Rattle.session.proofs.AskLaws.{Gathering, gathering-start, gathering-next}
 
 -- where an element of the table stands, by its ID
@@ -24,12 +23,6 @@ module _ (table : List ℕ) (good : is_table first_eight table ≡ true) (x : �
   held_place : position (ids_of first_eight table) x < length table / 64
   held_place =
       rw (ids-length first_eight table) at (holds-within (ids_of first_eight table) x (held-id table good x ∙ held))
-
-  held_bytes : Below 8 table
-      → part (64 * position (ids_of first_eight table) x) 64 table ≡ groups 8 64 (get_or (hashes_of table) (position (ids_of first_eight table) x) 0)
-  held_bytes below =
-      let p = position (ids_of first_eight table) x in
-      sym (ap (groups 8 64) (hash_at_lem table p held_place) ∙ bytes_back (64 * p) table (omega (arith, held_place)) below)
 
 -- a walk over ours that has come to element i
 pub record Offering (table ours marks₀ hashes₀ marks hashes : List ℕ) (i : ℕ) : Type 0 where
@@ -71,13 +64,9 @@ module _ {table ours marks₀ hashes₀ marks hashes : List ℕ} {i : ℕ} (s : 
         ∙ sym (map-append (λ x. get_or (hashes_of table) (position (ids_of first_eight table) x) 0) (take i ours) (get_or ours i 0 ∷ []))
         ∙ ap (hashes_at (hashes_of table) (ids_of first_eight table)) (sym (take-suc ours i 0 h) ∙ ap (λ (n : ℕ). take n ours) (sym (add-one i)))
 
-    bytes : Below 8 table → part (64 * p) 64 table ≡ groups 8 64 (get_or (hashes_of table) p 0)
-    bytes below =
-        subst (λ (q : ℕ). part (64 * q) 64 table ≡ groups 8 64 (get_or (hashes_of table) q 0)) (sym is) (held_bytes table o.table-good x held below)
-
-    pub offering_next : {hashes' : List ℕ} → Below 8 table → 64 * i + 64 ≤ length hashes₀ → hashes' ≡ over (64 * i) (part (64 * p) 64 table) hashes
+    pub offering_next : {hashes' : List ℕ} → 64 * i + 64 ≤ length hashes₀ → hashes' ≡ over (64 * i) (groups 8 64 (get_or (hashes_of table) p 0)) hashes
         → Offering table ours marks₀ hashes₀ (set marks p 2) hashes' (i + 1)
-    offering_next {hashes'} below room e =
+    offering_next {hashes'} room e =
         record {
           rest =
               ap (λ (n : ℕ). mark_all (ids_of first_eight table) (drop n ours) (set marks p 2)) (add-one i)
@@ -85,6 +74,6 @@ module _ {table ours marks₀ hashes₀ marks hashes : List ℕ} {i : ℕ} (s : 
               ∙ ap (λ (l : List ℕ). mark_all (ids_of first_eight table) l marks) (sym (drop-cons ours i 0 h)) ∙ s.rest;
           gathering =
               subst (λ (l : List ℕ). Gathering l hashes₀ hashes' (i + 1)) more
-              (gathering-next (get_or (hashes_of table) p 0) s.gathering room (e ∙ ap (λ (bs : List ℕ). over (64 * i) bs hashes) (bytes below)));
+              (gathering-next (get_or (hashes_of table) p 0) s.gathering room e);
           same = length-set marks p 2 ∙ s.same;
         }

@@ -7,11 +7,10 @@ use native.Mathlib.Omega.{arith}
 use lib.Dec.{eqb, ltb}
 use lib.ListN.{length, get_or, take, length-map}
 use borrow.Author.Tests.{eqb-true, eq-eqb}
-use Rattle.bucket.specs.Digits.{joined, groups, packed}
-use Rattle.bucket.specs.Lists.{part, over, elem}
+use Rattle.bucket.specs.Digits.{groups, packed}
+use Rattle.bucket.specs.Lists.{over, elem}
 use Rattle.bucket.proofs.ListLaws.{elem_at, elem_last, elem_cases, elem-nil}
 use Rattle.filter.specs.Table.{hashes_of, first_eight, ids_of, position, holds}
-use Rattle.filter.proofs.TableLaws.{hash_at_lem}
 use Rattle.filter.proofs.OrderLaws.{same_test, ascending-distinct, map_at}
 use Rattle.filter.proofs.BisectLaws.{held}
 use Rattle.ledger.proofs.BelowLaws.{hashes-written}
@@ -22,7 +21,7 @@ use Rattle.filter.specs.Sets.{insert}
 use Rattle.session.specs.Ready.{Offered}
 use Rattle.std.specs.Prelude.{Ok}
 use Rattle.ledger.proofs.PointLaws.{insert-length}
-use Rattle.session.proofs.PlaceLaws.{holds-within, index-within, place_here}
+use Rattle.session.proofs.PlaceLaws.{holds-within, place_here}
 use Rattle.filter.proofs.SetLaws.{◌∈◌, clash, not_in_nil, elem-insert}
 use Rattle.filter.proofs.ListLaws.{in_map, map_in, map-distinct}
 use Rattle.session.proofs.StoreLaws.{Fresh, fresh-first, fresh-next, known-ids, hash_inserted}
@@ -47,11 +46,6 @@ module _ (table known fresh I : List ℕ) (active : Bool) (h : ℕ) {id p : ℕ}
       (holds (map first_eight (hashes_of fresh)) x) (eqb (get_or (hashes_of fresh) (position (map first_eight (hashes_of fresh)) x) 0) h)
       (active && not (holds I x)))
       read (place_here table known h read is))
-
--- the hash that a search found
-pub found-hash : (t : List ℕ) (x : ℕ) {i : ℕ} → (i ≡ position (ids_of first_eight t) x) × (holds (ids_of first_eight t) x ≡ true)
-    → joined 8 (part (64 * i) 64 t) ≡ get_or (hashes_of t) (position (ids_of first_eight t) x) 0
-found-hash t x {i} f = sym (hash_at_lem t i (index-within t x f)) ∙ ap (λ (k : ℕ). get_or (hashes_of t) k 0) f.0
 
 -- ---- the new ones so far, in their order and ascending
 

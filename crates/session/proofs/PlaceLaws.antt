@@ -1,13 +1,13 @@
 -- Places: where searches in the table and among the demanded hashes end, what stands at a place, and 64 bytes compared. Assumes nothing.
 use mathlib.Core.Path.{◌≡◌, refl, sym, ap, ap₂, ◌∙◌}
-use mathlib.Core.Bool.{Bool, true, false, not, ◌&&◌, cond, and-eq-true_iff, true≢false}
+use mathlib.Core.Bool.{Bool, true, false, not, ◌&&◌, cond, and-eq-true_iff}
 use mathlib.Core.List.{List, map}
 use Prim.Native.Nat.{ℕ, ◌+◌, ◌-◌, ◌*◌, ◌/◌, ◌^◌, ◌≤◌, ◌<◌}
 use native.Mathlib.Omega.{arith}
 use lib.Dec.{eqb, ltb, leb}
 use lib.ListN.{length, get_or}
 use lib.Seq.{take_all}
-use borrow.Author.Tests.{eqb-true, lt-ltb, le-ltb, ltb-true, ltb-false, le-leb, lt-leb, eq-eqb, ne_eqb}
+use borrow.Author.Tests.{eqb-true, lt-ltb, le-ltb, ltb-true, le-leb, lt-leb, eq-eqb, ne_eqb}
 use Rattle.bucket.specs.Digits.{joined, groups, Below}
 use Rattle.bucket.specs.Lists.{part}
 use Rattle.bucket.proofs.DigitLaws.{groups-below, groups-joined, joined-groups, groups-length}
@@ -16,7 +16,7 @@ use Rattle.bucket.proofs.OverLaws.{part_length}
 use Rattle.bucket.proofs.TestLaws.{and_fails, and_holds, cond-kept, cond-made}
 use Rattle.filter.specs.Table.{hashes_of, first_eight, ids_of, is_table, position, holds}
 use Rattle.filter.proofs.BisectLaws.{holds-there, holds-past}
-use Rattle.filter.proofs.TableLaws.{hashes-length, ids-length, hash_at_lem, table-whole, table-count, first_eight_part}
+use Rattle.filter.proofs.TableLaws.{hashes-length, ids-length, table-whole, table-count, first_eight_part}
 use Rattle.message.proofs.WholeLaws.{part-below}
 use Rattle.ledger.specs.Memory.{is_met}
 use Rattle.session.specs.Moves.{place_of, is_held_at, hash_at_place, place_of_hash, is_unmet_at, unmet_at}
@@ -123,15 +123,6 @@ module _ (M : List ℕ) (p : ℕ) where
   unfolding is_held_at
   held_none h g = sym (ap₂ (λ (t u : Bool). cond t true (cond u (is_met (get_or M p 0)) false)) (le-ltb p 4096 h) (le-ltb p 8192 g))
 
-  pub held-placed : is_held_at M p ≡ true → p < 8192
-  held-placed e = go (ltb p 8192) refl
-    where
-      go : (t : Bool) → ltb p 8192 ≡ t → p < 8192
-      go true q = ltb-true p 8192 q
-      go false q =
-          let far : 8192 ≤ p = ltb-false p 8192 q in
-          absurd (true≢false (sym e ∙ sym (held_none (omega arith) far)))
-
 -- ---- a demand that is unmet
 
 module _ (M : List ℕ) (p : ℕ) where
@@ -195,50 +186,34 @@ same_bytes a b size-a size-b below-a below-b =
     decides : Decides (pointwise eqb a b) (a ≡ b)
     decides = bytes_eq-Decides a b
 
+-- a hash's bytes, and whether they are those of another
+module _ (x : ℕ) (short : x < 2 ^ 512) {bs : List ℕ} (there : bs ≡ groups 8 64 x) where
+  pub hash-size : length bs ≡ 64
+  hash-size = ap length there ∙ groups-length 8 64 x
+
+  pub hash-same : (h : List ℕ) → length h ≡ 64 → Below 8 h → pointwise eqb bs h ≡ eqb x (joined 8 h)
+  hash-same h size below =
+      same_bytes bs h hash-size size (rw there (groups-below 8 64 x)) below
+      ∙ ap (λ (n : ℕ). eqb n (joined 8 h)) (ap (joined 8) there ∙ joined-groups 8 64 x ∙ mod-eq_of_lt short)
+
 -- ---- the hash at a place
 
-module _ (table known : List ℕ) (p : ℕ) (w : Placed table known p) where
-  pub hash-first : p < 4096 → hash_at_place (hashes_of table) (hashes_of known) p ≡ joined 8 (part (64 * p) 64 table)
+module _ (t K : List ℕ) (p : ℕ) where
+  pub hash-first : p < 4096 → hash_at_place t K p ≡ get_or t p 0
   unfolding hash_at_place
-  hash-first h =
-      ap (λ (t : Bool). cond t (get_or (hashes_of table) p 0) (get_or (hashes_of known) (p - 4096) 0)) (lt-ltb p 4096 h)
-      ∙ hash_at_lem table p (omega (arith, first-placed table known p h w))
+  hash-first h = ap (λ (b : Bool). cond b (get_or t p 0) (get_or K (p - 4096) 0)) (lt-ltb p 4096 h)
 
-  pub hash_second : 4096 ≤ p → hash_at_place (hashes_of table) (hashes_of known) p ≡ joined 8 (part (64 * (p - 4096)) 64 known)
+  pub hash_second : 4096 ≤ p → hash_at_place t K p ≡ get_or K (p - 4096) 0
   unfolding hash_at_place
-  hash_second h =
-      ap (λ (t : Bool). cond t (get_or (hashes_of table) p 0) (get_or (hashes_of known) (p - 4096) 0)) (le-ltb p 4096 h)
-      ∙ hash_at_lem known (p - 4096) (omega (arith, second_placed table known p h w))
+  hash_second h = ap (λ (b : Bool). cond b (get_or t p 0) (get_or K (p - 4096) 0)) (le-ltb p 4096 h)
 
-  pub bytes-first : p < 4096 → Below 8 table → part (64 * p) 64 table ≡ groups 8 64 (hash_at_place (hashes_of table) (hashes_of known) p)
-  bytes-first h below =
-      sym (ap (groups 8 64) (hash-first h) ∙ bytes_back (64 * p) table (first-placed table known p h w) below)
-
-  pub bytes_second : 4096 ≤ p → Below 8 known → part (64 * (p - 4096)) 64 known ≡ groups 8 64 (hash_at_place (hashes_of table) (hashes_of known) p)
-  bytes_second h below =
-      sym (ap (groups 8 64) (hash_second h) ∙ bytes_back (64 * (p - 4096)) known (second_placed table known p h w) below)
-
--- it has 64 bytes, and whether they are those of another
-module _ (table known : List ℕ) (p : ℕ) where
-  pub place-short : hash_at_place (hashes_of table) (hashes_of known) p < 2 ^ 512
-  unfolding hash_at_place
-  place-short = go (ltb p 4096)
-    where
-      go : (b : Bool) → cond b (get_or (hashes_of table) p 0) (get_or (hashes_of known) (p - 4096) 0) < 2 ^ 512
-      go true = hashes-below table p
-      go false = hashes-below known (p - 4096)
-
-  module _ {bs : List ℕ} (there : bs ≡ groups 8 64 (hash_at_place (hashes_of table) (hashes_of known) p)) where
-    pub place-size : length bs ≡ 64
-    place-size = ap length there ∙ groups-length 8 64 (hash_at_place (hashes_of table) (hashes_of known) p)
-
-    pub place-same : (h : List ℕ) → length h ≡ 64 → Below 8 h → pointwise eqb bs h ≡ eqb (hash_at_place (hashes_of table) (hashes_of known) p) (joined 8 h)
-    place-same h size below =
-        same_bytes bs h place-size size (rw there (groups-below 8 64 x)) below
-        ∙ ap (λ (n : ℕ). eqb n (joined 8 h)) (ap (joined 8) there ∙ joined-groups 8 64 x ∙ mod-eq_of_lt place-short)
-      where
-        x : ℕ
-        x = hash_at_place (hashes_of table) (hashes_of known) p
+pub place-short : (table known : List ℕ) (p : ℕ) → hash_at_place (hashes_of table) (hashes_of known) p < 2 ^ 512
+unfolding hash_at_place
+place-short table known p = go (ltb p 4096)
+  where
+    go : (b : Bool) → cond b (get_or (hashes_of table) p 0) (get_or (hashes_of known) (p - 4096) 0) < 2 ^ 512
+    go true = hashes-below table p
+    go false = hashes-below known (p - 4096)
 
 -- ---- the place of a hash
 

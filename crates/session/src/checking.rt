@@ -7,16 +7,18 @@ ghost use Rattle.bucket.specs.Lists.{part};
 ghost use Rattle.filter.specs.Table.{hashes_of};
 ghost use Rattle.ledger.specs.Memory.{is_met, marked};
 ghost use Rattle.session.specs.Moves.{check_of};
-ghost use Rattle.session.specs.Ready.{Kept, Adds};
+ghost use Rattle.session.specs.Ready.{Adds};
+
+use crate::places::{RECORDS, Tables};
 
 // The checksum of the table and of the hashes demanded and met.
-pub(crate) fn checksum(table: &[u8], known: &[u8], marks: &[u8]) -> [u8; 64]
-    requires { Kept table.now known.now marks.now }
-    ensures { result ≡ packed 512 (check_of (hashes_of table.now) (hashes_of known.now) (part 4096 (length (hashes_of known.now)) marks.now) ∷ []) }
+pub(crate) fn checksum(tables: Tables, marks: &[u8]) -> [u8; 64]
+    requires { 8192 ≤ length marks.now }
+    ensures { result ≡ packed 512 (check_of (hashes_of tables.entry.table.now) (hashes_of tables.entry.known.now) (part 4096 (length (hashes_of tables.entry.known.now)) marks.now) ∷ []) }
 {
     let mut acc = [0u8; 64];
-    xor_all(&mut acc, table);
-    xor_met(&mut acc, known, &marks[4096..]);
+    xor_all(&mut acc, tables.table);
+    xor_met(&mut acc, tables.known, &marks[RECORDS..]);
     acc
 }
 
@@ -45,6 +47,7 @@ pub(crate) fn xor_into(acc: &mut [u8; 64], hash: &[u8])
     requires { length hash.now ≡ 64 }
     ensures { Adds acc.old (joined 8 hash.now) acc.new }
 {
+    // By index, since a proof knows of a slice behind `iter_mut().zip(..)` its length alone.
     for (k, b) in hash.iter().enumerate() {
         acc[k] ^= *b;
     }

@@ -4,6 +4,7 @@ ghost use Rattle.session.specs.Ready.{Kept};
 ghost use Rattle.session.specs.Steps.{DoneSteps, ElementSteps, LastSteps};
 ghost use Rattle.session.specs.Turns.{settled};
 
+use crate::places::Tables;
 use filter::answers::Refusal;
 use ledger::numbers::{ACTIVE, Answer, FINISHED, Numbers, PASSIVE, WAITING};
 
@@ -24,8 +25,11 @@ pub(crate) fn on_element(
         × (64 ≤ length hash.now) × (295008 ≤ length out.old) × (came ≤ 8192) }
     ensures { ElementSteps numbers table.now records.now marks.old hash.now out.old came unmet (settled numbers result) marks.new out.new }
 {
-    let known = &records[..64 * numbers.demanded as usize];
-    let p = crate::places::unmet_place(table, known, marks, &hash[..64]).ok_or(Refusal::Breach)?;
+    let tables = Tables {
+        table,
+        known: &records[..64 * numbers.demanded as usize],
+    };
+    let p = crate::places::unmet_place(tables, marks, &hash[..64]).ok_or(Refusal::Breach)?;
     let last = (numbers.state == WAITING) & (unmet == 1);
     let all = (numbers.state == ACTIVE) & (came + 1 == numbers.inquired as usize);
     if all | last {
@@ -50,8 +54,11 @@ fn last_element(
         × (64 ≤ length hash.now) × (295008 ≤ length out.old) × (p < 8192) }
     ensures { LastSteps numbers table.now records.now marks.old hash.now out.old p last (settled numbers result) marks.new out.new }
 {
-    let known = &records[..64 * numbers.demanded as usize];
-    let mut check = crate::checking::checksum(table, known, marks);
+    let tables = Tables {
+        table,
+        known: &records[..64 * numbers.demanded as usize],
+    };
+    let mut check = crate::checking::checksum(tables, marks);
     crate::checking::xor_into(&mut check, &hash[..64]);
     if last && records[FAR..FAR + 64] != check[..] {
         return Err(Refusal::Checksum);
@@ -83,7 +90,11 @@ pub(crate) fn on_done(
         records[FAR..FAR + 64].copy_from_slice(&message[4..68]);
         return Ok(form::numbers::changed(numbers, WAITING, numbers.done, d, 0, 0));
     }
-    let check = crate::checking::checksum(table, &records[..64 * d as usize], marks);
+    let tables = Tables {
+        table,
+        known: &records[..64 * d as usize],
+    };
+    let check = crate::checking::checksum(tables, marks);
     if message[4..68] != check[..] {
         return Err(Refusal::Checksum);
     }

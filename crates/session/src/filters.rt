@@ -175,7 +175,8 @@ fn open(
 {
     let sent = tell(table, marks, inquired, ours, theirs, out, salt);
     if theirs.is_empty() {
-        let check = crate::checking::checksum(table, &[], marks);
+        let tables = crate::places::Tables { table, known: &[] };
+        let check = crate::checking::checksum(tables, marks);
         let end = crate::sending::send_done(&check, out, sent);
         return form::numbers::answered(end, 0, form::numbers::opened(numbers, size, salt, 1, 0));
     }
@@ -219,6 +220,6 @@ fn offer_all(table: &[u8], marks: &mut [u8], ours: &[u64], hashes: &mut [u8])
     for (i, id) in ours.iter().enumerate() {
         let p = filter::table::id_position(table, *id);
         marks[p] = 2;
-        hashes[64 * i..64 * i + 64].copy_from_slice(&table[64 * p..64 * p + 64]);
+        hashes[64 * i..64 * i + 64].copy_from_slice(crate::places::nth_hash(table, p));
     }
 }

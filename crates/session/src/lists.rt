@@ -7,6 +7,7 @@ ghost use Rattle.session.specs.Moves.{stored};
 ghost use Rattle.session.specs.Ready.{Kept};
 ghost use Rattle.session.specs.Turns.{settled, mark_turn, inquiry_turn, demand_turn, offer_turn, offer_turn'};
 
+use crate::places::Tables;
 use filter::answers::Refusal;
 use ledger::numbers::{ACTIVE, Answer, Numbers};
 
@@ -28,12 +29,15 @@ pub(crate) fn on_inquiry(
     if salt != numbers.salt {
         return Err(Refusal::Breach);
     }
-    let known = &records[..64 * numbers.demanded as usize];
+    let tables = Tables {
+        table,
+        known: &records[..64 * numbers.demanded as usize],
+    };
     let mut work = [0u8; 8192];
     work.copy_from_slice(&marks[..8192]);
     let mut hashes = [0u8; 262144];
     let ids = &message[8..8 + 8 * n];
-    let m = crate::asking::ask_all(table, known, &mut work, ids, &mut hashes)?;
+    let m = crate::asking::ask_all(tables, &mut work, ids, &mut hashes)?;
     marks[..8192].copy_from_slice(&work);
     let sent = crate::sending::send_offers(&hashes[..64 * m], out, 0);
     Ok(form::numbers::changed(
@@ -60,11 +64,14 @@ pub(crate) fn on_demand(
     ensures { mark_turn (settled numbers result) marks.new out.new
         ≡ demand_turn numbers (hashes_of table.now) (hashes_of (take (64 * numbers.demanded) records.now)) (unpacked 512 n (part 4 (64 * n) message.now)) marks.old out.old }
 {
-    let known = &records[..64 * numbers.demanded as usize];
+    let tables = Tables {
+        table,
+        known: &records[..64 * numbers.demanded as usize],
+    };
     let mut work = [0u8; 8192];
     work.copy_from_slice(&marks[..8192]);
     let hashes = &message[4..4 + 64 * n];
-    crate::asking::serve_all(table, known, &mut work, hashes)?;
+    crate::asking::serve_all(tables, &mut work, hashes)?;
     marks[..8192].copy_from_slice(&work);
     out[..64 * n].copy_from_slice(hashes);
     Ok(form::numbers::changed(numbers, numbers.state, numbers.done, numbers.demanded, 0, n))
@@ -88,21 +95,16 @@ pub(crate) fn on_offer(
         ≡ offer_turn numbers (hashes_of table.now) (hashes_of (take (64 * numbers.demanded) records.old)) (take numbers.inquired inquired.now) (unpacked 512 n (part 4 (64 * n) message.now)) concerned records.old marks.old out.old }
 {
     let demanded = numbers.demanded as usize;
-    let known = &records[..64 * demanded];
+    let tables = Tables {
+        table,
+        known: &records[..64 * demanded],
+    };
     let inquired = &inquired[..numbers.inquired as usize];
     let active = numbers.state == ACTIVE;
     let offered = &message[4..4 + 64 * n];
     let mut fresh = [0u8; 65472];
     let mut hashes = [0u8; 65472];
-    let m = crate::offering::new_all(
-        table,
-        known,
-        inquired,
-        active,
-        offered,
-        &mut fresh,
-        &mut hashes,
-    )?;
+    let m = crate::offering::new_all(tables, inquired, active, offered, &mut fresh, &mut hashes)?;
     let new = &hashes[..64 * m];
     let more = crate::offering::count_extra(new, inquired);
     if 4096 < concerned + more || 4096 < demanded + m {

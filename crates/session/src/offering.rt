@@ -1,11 +1,12 @@
 // OFFER: the hashes of a message judged, the new ones gathered, and put among the demanded.
-ghost use Rattle.std.specs.Prelude.{◌≡◌, IfOk, true, cond, ◌+◌, ◌*◌, ◌/◌, ◌≤◌, length};
+ghost use Rattle.std.specs.Prelude.{◌≡◌, IfOk, cond, ◌+◌, ◌*◌, ◌/◌, ◌≤◌, length};
 ghost use Rattle.bucket.specs.Digits.{joined};
-ghost use Rattle.filter.specs.Table.{first_eight, hashes_of, is_table};
+ghost use Rattle.filter.specs.Table.{first_eight, hashes_of};
 ghost use Rattle.session.specs.Moves.{new_all, item_in, extra, stored, store_all};
 ghost use Rattle.session.specs.Ready.{Offered};
 ghost use Rattle.session.specs.declared.offering.Item.TheVariants.{Known, New, Bad};
 
+use crate::places::Tables;
 use filter::answers::Refusal;
 
 // A hash offered.
@@ -20,23 +21,21 @@ pub(crate) enum Item {
 
 // The hashes of an OFFER: the new ones are gathered in order, and `fresh` holds them ascending as they come. Answers how many.
 pub(crate) fn new_all(
-    table: &[u8],
-    known: &[u8],
+    tables: Tables,
     inquired: &[u64],
     active: bool,
     offered: &[u8],
     fresh: &mut [u8],
     hashes: &mut [u8],
 ) -> Result<usize, Refusal>
-    requires { (is_table first_eight table.now ≡ true) × (is_table first_eight known.now ≡ true) × (length inquired.now ≤ 4096)
-        × (length offered.now ≤ 65472) × (65472 ≤ length fresh.old) × (65472 ≤ length hashes.old) }
-    ensures walked { Offered (new_all first_eight (hashes_of table.now) (hashes_of known.now) inquired.now active (hashes_of offered.now))
+    requires { (length inquired.now ≤ 4096) × (length offered.now ≤ 65472) × (65472 ≤ length fresh.old) × (65472 ≤ length hashes.old) }
+    ensures walked { Offered (new_all first_eight (hashes_of tables.entry.table.now) (hashes_of tables.entry.known.now) inquired.now active (hashes_of offered.now))
         result hashes.new hashes.old }
     ensures few { IfOk result (λ m. 64 * m ≤ length offered.now) }
 {
     let mut m: usize = 0;
     for hash in offered.chunks_exact(64) {
-        match judge_item(table, known, &fresh[..64 * m], inquired, active, hash) {
+        match judge_item(tables, &fresh[..64 * m], inquired, active, hash) {
             Item::Bad => return Err(Refusal::Breach),
             Item::New => {
                 crate::inserting::insert_hash(fresh, m, hash);
@@ -50,23 +49,16 @@ pub(crate) fn new_all(
 }
 
 // One hash offered, judged against the table, the demanded ones and the new ones so far.
-fn judge_item(
-    table: &[u8],
-    known: &[u8],
-    fresh: &[u8],
-    inquired: &[u64],
-    active: bool,
-    hash: &[u8],
-) -> Item
-    requires { (length table.now ≤ 262144) × (length known.now ≤ 262144) × (length fresh.now ≤ 262144) × (length inquired.now ≤ 4096) × (length hash.now ≡ 64) }
-    ensures { result ≡ item_in (hashes_of table.now) (hashes_of known.now) (hashes_of fresh.now) inquired.now active (joined 8 hash.now) }
+fn judge_item(tables: Tables, fresh: &[u8], inquired: &[u64], active: bool, hash: &[u8]) -> Item
+    requires { (length fresh.now ≤ 262144) × (length inquired.now ≤ 4096) × (length hash.now ≡ 64) }
+    ensures { result ≡ item_in (hashes_of tables.entry.table.now) (hashes_of tables.entry.known.now) (hashes_of fresh.now) inquired.now active (joined 8 hash.now) }
 {
     let id = bucket::bytes::number_at(hash, 0, 8);
-    if let Some(p) = crate::places::place_of(table, known, id) {
-        return known_if(crate::places::hash_at(table, known, p) == hash);
+    if let Some(p) = tables.place_of(id) {
+        return known_if(tables.hash_at(p) == hash);
     }
     if let Some(i) = crate::places::index_of(fresh, id) {
-        return known_if(&fresh[64 * i..64 * i + 64] == hash);
+        return known_if(crate::places::nth_hash(fresh, i) == hash);
     }
     if active && !crate::inserting::holds_id(inquired, id) {
         return Item::Bad;
@@ -81,7 +73,7 @@ fn known_if(same: bool) -> Item
     if same { Item::Known } else { Item::Bad }
 }
 
-// How many of the gathered hashes were not inquired.
+// How many of the gathered hashes were not inquired. A `for`, since the proof of `filter(..).count()` over chunks didn't close: it knows them by index alone.
 pub(crate) fn count_extra(hashes: &[u8], inquired: &[u64]) -> usize
     requires { length inquired.now ≤ 4096 }
     ensures { (result ≡ extra first_eight inquired.now (hashes_of hashes.now)) × (result ≤ length hashes.now / 64) }

@@ -18,7 +18,7 @@ pub extern "C" fn tandawire_estimator_build(
     ensures { built result (columns ids.new hashes.new counts.new)
         ≡ estimator_call first_eight 0 table.now (columns ids.old hashes.old counts.old) }
 {
-    filter::answers::refusal_number(filter::estimator::build(table, ids, hashes, counts))
+    filter::answers::number(filter::estimator::build(table, ids, hashes, counts))
 }
 
 // How many IDs are in only one of the tables that two estimators were made from, estimated; the first's columns become what remains.
@@ -35,7 +35,5 @@ pub extern "C" fn tandawire_estimate(
         ≡ estimate_call 0 (columns ids.old hashes.old counts.old)
         (columns ids2.now hashes2.now counts2.now) }
 {
-    filter::answers::estimate_numbers(filter::estimator::estimate(
-        ids, hashes, counts, ids2, hashes2, counts2,
-    ))
+    EstimateAnswer::from(filter::estimator::estimate(ids, hashes, counts, ids2, hashes2, counts2))
 }

@@ -19,7 +19,7 @@ pub extern "C" fn tandawire_build(
     ensures { built result (columns ids.new hashes.new counts.new)
         ≡ build_call first_eight size salt table.now (columns ids.old hashes.old counts.old) }
 {
-    filter::answers::refusal_number(filter::building::build(table, ids, hashes, counts, size, salt))
+    filter::answers::number(filter::building::build(table, ids, hashes, counts, size, salt))
 }
 
 // The received columns become ours minus received, peeled; IDs only in our table are listed in ours, those only in theirs in theirs.
@@ -37,7 +37,5 @@ pub extern "C" fn tandawire_read(
     ensures { answered result (columns ids.new hashes.new counts.new) ours.new theirs.new
         ≡ read_call first_eight size salt table.now (columns ids.old hashes.old counts.old) ours.old theirs.old }
 {
-    filter::answers::numbers(filter::reading::read(
-        table, ids, hashes, counts, ours, theirs, size, salt,
-    ))
+    ReadAnswer::from(filter::reading::read(table, ids, hashes, counts, ours, theirs, size, salt))
 }

@@ -30,7 +30,7 @@ pub extern "C" fn tandawire_message_at(buffer: &[u8], at: usize) -> MessageNumbe
 pub extern "C" fn tandawire_element_write(content: &[u8], out: &mut [u8], at: usize) -> Written
     ensures { left result out.new ≡ write_numbers (element_call content.now at out.old) }
 {
-    message::kinds::write_numbers(message::writing::element(content, out, at))
+    Written::from(message::writing::element(content, out, at))
 }
 
 // A whole filter, from a position of a buffer.
@@ -47,9 +47,7 @@ pub extern "C" fn tandawire_filter_write(
     ensures { left result out.new
         ≡ write_numbers (filter_call size salt (columns ids.now hashes.now counts.now) at out.old) }
 {
-    message::kinds::write_numbers(message::filters::filter(
-        ids, hashes, counts, size, salt, out, at,
-    ))
+    Written::from(message::filters::filter(ids, hashes, counts, size, salt, out, at))
 }
 
 // The slice of an IBF or IBF LAST message, laid into three columns; answers the refusal number, 0 for none.
@@ -63,5 +61,5 @@ pub extern "C" fn tandawire_filter_lay(
     ensures { built result (columns ids.new hashes.new counts.new)
         ≡ lay_numbers (lay_call message.now (columns ids.old hashes.old counts.old)) }
 {
-    filter::answers::refusal_number(message::laying::lay(message, ids, hashes, counts))
+    filter::answers::number(message::laying::lay(message, ids, hashes, counts))
 }

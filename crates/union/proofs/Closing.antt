@@ -20,9 +20,10 @@ use borrow.Author.Tests.{ne_eqb, eqb-true}
 use Rattle.std.proofs.Common.{Option, Some, None}
 use Rattle.bucket.specs.Digits.{Below}
 use Rattle.bucket.specs.Lists.{elem}
+use Rattle.std.specs.Prelude.{Option}
 use Rattle.filter.specs.declared.answers.Refusal.{Refusal}
 use Rattle.filter.specs.declared.answers.Refusal.TheVariants.{Room, OutOfTurn, Breach, Checksum, Malformed}
-use Rattle.filter.specs.Answers.{refusal_number, first_of}
+use Rattle.filter.specs.Answers.{refusal_number, number_of, first_of}
 use Rattle.filter.specs.Sets.{is_nil, all, implies}
 use Rattle.filter.proofs.ListLaws.{all_in, implies_of}
 use Rattle.filter.proofs.SetLaws.{clash, or_cases, and_l}
@@ -92,7 +93,7 @@ module _ (derive : ℕ → ℕ) (t : List ℕ) (h : ℕ) (s : Session) (c : Cont
       (change derive t h s c)
 
   unfoldable pub old_refusal : ℕ
-  old_refusal = refusal_number (first_of ((OutOfTurn, old_admitted s c) ∷ old_tests))
+  old_refusal = number_of (first_of ((OutOfTurn, old_admitted s c) ∷ old_tests))
 
   unfoldable pub old_act : Outcome
   old_act = by_slice c (λ size offset salt width. on_slice derive t s c size offset salt width) (changed s old_change)
@@ -108,7 +109,7 @@ module _ (derive : ℕ → ℕ) where
       (cond (eqb G.numbers.state CLOSING)
       (given (in_state WAITING G.numbers) G.table G.records G.marks G.inquired G.columns G.ours G.theirs G.hash G.message G.out) G)
 
-  unfoldable pub old_early : Given → Refusal
+  unfoldable pub old_early : Given → Option Refusal
   old_early G = first_of ((Refusal.Form, old_form G) ∷ (Room, has_rooms G) ∷ (OutOfTurn, not (is_ended G.numbers.state)) ∷ [])
 
   unfoldable pub old_on : Content → Given → Left
@@ -124,7 +125,7 @@ module _ (derive : ℕ → ℕ) where
 
   unfoldable pub old_call : Given → Left
   old_call G =
-      let n = refusal_number (old_early G) in
+      let n = number_of (old_early G) in
       cond (eqb n 0) (old_said (exactly_one G.message) G) (unchanged n G.numbers.state G)
 
 -- ---- on a session in form its step is ledger's
@@ -186,8 +187,8 @@ module _ (derive : ℕ → ℕ) (t : List ℕ) (h : ℕ) (s : Session) (f : Form
   refusal-same c = rw elsewhere (go (admitted s c) refl)
     where
       go : (b : Bool) → admitted s c ≡ b
-          → refusal_number (first_of ((OutOfTurn, b) ∷ old_tests derive t h s c)) ≡ refusal_number (first_of ((OutOfTurn, b) ∷ tests derive t h s c))
-      go true e = ap refusal_number (alike c e).0
+          → number_of (first_of ((OutOfTurn, b) ∷ old_tests derive t h s c)) ≡ number_of (first_of ((OutOfTurn, b) ∷ tests derive t h s c))
+      go true e = ap number_of (alike c e).0
       go false e = refl
 
   act-same : (c : Content) → acts (refusal derive t h s c) ≡ true → old_act derive t h s c ≡ act derive t h s c
@@ -219,7 +220,7 @@ module _ (derive : ℕ → ℕ) where
   pub call_same : (G : Given) → good_form derive G ≡ true → old_call derive G ≡ step_call derive G
   unfolding old_call old_early old_form step_call step_said early session_of
   call_same G form =
-      let n : ℕ = refusal_number (early derive G) in
+      let n : ℕ = number_of (early derive G) in
       rw (ne_eqb G.numbers.state CLOSING (not_closing G.numbers.state (given-state derive G form)))
       (where_so (eqb n 0) (unchanged n G.numbers.state G)
       (λ e. said (given-form derive G form (rooms_of_lem G (rooms (has_rooms G) refl e)).ledger) (exactly_one G.message)))
@@ -229,7 +230,7 @@ module _ (derive : ℕ → ℕ) where
       said f None = refl
 
       -- without its rooms both are refused with 2
-      rooms : (b : Bool) → has_rooms G ≡ b → eqb (refusal_number (early derive G)) 0 ≡ true → b ≡ true
+      rooms : (b : Bool) → has_rooms G ≡ b → eqb (number_of (early derive G)) 0 ≡ true → b ≡ true
       rooms true r e = refl
       rooms false r e = absurd (clash e (unfold early in rw (form, r) refl))
 

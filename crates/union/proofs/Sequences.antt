@@ -19,7 +19,7 @@ use Rattle.std.proofs.Common.{Option, Some, None}
 use Rattle.bucket.specs.Digits.{Below}
 use Rattle.filter.specs.declared.answers.Refusal.{Refusal}
 use Rattle.filter.specs.declared.answers.Refusal.TheVariants.{OutOfTurn}
-use Rattle.filter.specs.Answers.{refusal_number, first_of}
+use Rattle.filter.specs.Answers.{refusal_number, number_of as refused_by, first_of}
 use Rattle.filter.proofs.SetLaws.{clash}
 use Rattle.message.specs.declared.kinds.Message.{Message}
 use Rattle.message.specs.Layout.{Content, slice, inquiry, offer, demand, element, done}
@@ -40,7 +40,7 @@ abbrev Lacks : List (Refusal × Bool) → Type 0
 Lacks [] = Unit {0}
 Lacks (f ∷ l) = (eqb (refusal_number f.0) 1 ≡ false) × Lacks l
 
-first-lacks : (l : List (Refusal × Bool)) → Lacks l → eqb (refusal_number (first_of l)) 1 ≡ false
+first-lacks : (l : List (Refusal × Bool)) → Lacks l → eqb (refused_by (first_of l)) 1 ≡ false
 first-lacks [] k = refl
 first-lacks ((r, true) ∷ l) k = first-lacks l k.1
 first-lacks ((r, false) ∷ l) k = k.0

@@ -1,12 +1,17 @@
 use mathlib.Core.Path.{refl, sym, ◌∙◌}
 use Prim.Native.Nat.{ℕ}
 use native.Mathlib.Omega.{arith}
-use lib.ListN.{drop_of_length-le}
+use lib.ListN.{take, drop_of_length-le}
+use lib.Dec.{eqb}
+use borrow.Author.Rules.{rules}
+use borrow.Author.Tests.{tests}
+use Rattle.std.proofs.lemmas.Iterator.{YieldsList-from_slice}
+use Rattle.std.proofs.lemmas.Iterator.Search.{any_from_yields_List}
 use Rattle.bucket.proofs.ListLaws.{any-elem}
 use Rattle.bucket.proofs.TableLaws.{tabulated-length, tabulated-rest, numbers}
 use Rattle.bucket.proofs.SearchLaws.{search_full, search_spent, search_skip, search-take}
 use Rattle.bucket.proofs.places.fill.Goals as goal
-use Rattle.bucket.proofs.places.fill.Goals.{then-not-contains, else-not-contains}
+use Rattle.bucket.proofs.places.fill.Goals.{then-not-any, else-not-any}
 
 pub loop-c-init : goal.loop-c-init
 loop-c-init c = let pre = c.requires in record { room = refl; fits = pre.1; few = pre.0; padded = pre.2; rest = refl }
@@ -21,10 +26,10 @@ pub loop-c-preserved : goal.loop-c-preserved
 loop-c-preserved c = let at = c.loop-c in
     let args = c.args in
     let left = tabulated-rest (λ (b : ℕ). b) args.size at.c-counter (omega arith) in
-    let asked = c.contains.ensures.value ∙ any-elem _ _ in
-    elim c.if-not-contains.branch [
-      | then-not-contains w ↦ rw (w.taken-is, w.n-is) (search-take at.invariant left (sym asked ∙ w.if-not-contains.true) (omega arith))
-      | else-not-contains w ↦ rw (w.taken-is, w.n-is) (search_skip at.invariant left (sym asked ∙ w.if-not-contains.false))
+    let asked = any_from_yields_List (λ b. eqb b at.c-counter) _ _ c.any.result c.any.ensures.ran (YieldsList-from_slice (take at.n at.taken) cc) (λ x b q k. search (rules, tests)) ∙ any-elem _ _ in
+    elim c.if-not-any.branch [
+      | then-not-any w ↦ rw (w.taken-is, w.n-is) (search-take at.invariant left (sym asked ∙ w.if-not-any.true) (omega arith))
+      | else-not-any w ↦ rw (w.taken-is, w.n-is) (search_skip at.invariant left (sym asked ∙ w.if-not-any.false))
     ]
 
 pub shape_of-taken : goal.shape_of-taken

@@ -3,7 +3,11 @@
 use mathlib.Core.Path.{sym, ap, ◌∙◌}
 use Prim.Native.Nat.{ℕ, min}
 use native.Mathlib.Omega.{arith}
-use borrow.Author.Tests.{eq-eqb, le-ltb}
+use lib.Dec.{eqb}
+use borrow.Author.Rules.{rules}
+use borrow.Author.Tests.{eq-eqb, le-ltb, tests}
+use Rattle.std.proofs.lemmas.Iterator.{YieldsList-from_slice}
+use Rattle.std.proofs.lemmas.Iterator.Search.{any_from_yields_List}
 use lib.ListN.{take}
 use Rattle.bucket.specs.Crc.{next_by}
 use Rattle.bucket.specs.Lists.{elem}
@@ -22,7 +26,8 @@ returns-then-d-size c = let args = c.args in
 pub returns-else-d-size : goal.returns-else-d-size
 returns-else-d-size c = let args = c.args in
     let n = c.min-n.result in
-    c.contains.ensures.value ∙ any-elem args.i _
+    any_from_yields_List (λ b. eqb b args.i) _ _ _ c.any.ensures.ran (YieldsList-from_slice (take n c.places.result) cc) (λ x b q k. search (rules, tests))
+    ∙ any-elem args.i _
     ∙ ap (elem args.i) (ap (take n) c.places.ensures ∙ places-back (next_by args.tab.now) (min 4 args.k) args.size args.d 4 n (omega arith))
 
 pub returns-else-n-gt0 : goal.returns-else-n-gt0

@@ -3,7 +3,7 @@ use native.Mathlib.Omega.{arith}
 use borrow.Author.Tests.{not-true, not-false}
 use Rattle.bucket.proofs.TestLaws.{test_refused, test_granted}
 use Rattle.differ.proofs.TextLaws.{writes_as}
-use Rattle.differ.proofs.ReportLaws.{refusal-fits, size_small, compared-form, compared-range, compared-shown}
+use Rattle.differ.proofs.ReportLaws.{refusal-fits, compared-form, compared-range, compared-shown}
 use Rattle.std.proofs.Common.{ap}
 use mathlib.Core.Bool.{not}
 use Rattle.differ.proofs.report.compare.Goals as goal
@@ -23,7 +23,7 @@ returns-then-not-size c = writes_as
     c.put_refusal-then-not-size.ensures
 
 pub show-requires : goal.show-requires
-show-requires c = (size_small c.args.size (not-false _ (ap not c.if-not-size.false)), omega arith)
+show-requires c = (test_granted c.are_tables.ensures (ap not c.if-not-are_tables.false), not-false _ (ap not c.if-not-size.false), omega arith)
 
 pub returns : goal.returns
 returns c = writes_as

@@ -44,15 +44,6 @@ loop-e-preserved c = let t = c.add_element in
     (omega (arith, counted (goal.at.loop-e-preserved c).After-count-e-end, c.loop-e-test.true)) c.element_id-id.ensures c.salt-x.ensures
     refl refl t.ensures
 
-pub shape_of-ids : goal.shape_of-ids
-shape_of-ids c = c.loop-e.invariant.lengths.0
-
-pub shape_of-hashes : goal.shape_of-hashes
-shape_of-hashes c = c.loop-e.invariant.lengths.1
-
-pub shape_of-counts : goal.shape_of-counts
-shape_of-counts c = c.loop-e.invariant.lengths.2
-
 pub returns : goal.returns
 returns c = let w = c.loop-e in
     let a = c.args in

@@ -44,15 +44,6 @@ loop-b-preserved c = let t = c.put_at in
     c.requires.1 c.requires.2 w.invariant c.places-p.result (omega arith) (given p) l
     (columns t.new.ids t.new.hashes t.new.counts) (rw (get_or-take a.k c.places-p.result w.b-index 0 l) at t.ensures)
 
-pub shape_of-ids : goal.shape_of-ids
-shape_of-ids c = c.loop-b.invariant.lengths.0
-
-pub shape_of-hashes : goal.shape_of-hashes
-shape_of-hashes c = c.loop-b.invariant.lengths.1
-
-pub shape_of-counts : goal.shape_of-counts
-shape_of-counts c = c.loop-b.invariant.lengths.2
-
 pub returns : goal.returns
 returns c = let w = c.loop-b in
     let a = c.args in

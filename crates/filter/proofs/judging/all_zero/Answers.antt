@@ -17,15 +17,15 @@ returns c = let a = c.args in
     let hs = take a.n a.hashes.now in
     let cs = take a.n a.counts.now in
     let i =
-        fold_from_yields_List _ (λ (t : Bool) x. t && eqb x 0) true _ c.fold-no_id.ensures.ran
-        (YieldsList-from_slice is cc) (λ t x b q k. search (rules, tests))
-        ∙ fold-all (λ x. eqb x 0) is true in
+    fold_from_yields_List _ (λ (t : Bool) x. t && eqb x 0) true _ c.fold-no_id.ensures.ran
+    (YieldsList-from_slice is cc) (λ t x b q k. search (rules, tests))
+    ∙ fold-all (λ x. eqb x 0) is true in
     let h =
-        fold_from_yields_List _ (λ (t : Bool) x. t && eqb x 0) true _ c.fold-no_hash.ensures.ran
-        (YieldsList-from_slice hs cc) (λ t x b q k. search (rules, tests))
-        ∙ fold-all (λ x. eqb x 0) hs true in
+    fold_from_yields_List _ (λ (t : Bool) x. t && eqb x 0) true _ c.fold-no_hash.ensures.ran
+    (YieldsList-from_slice hs cc) (λ t x b q k. search (rules, tests))
+    ∙ fold-all (λ x. eqb x 0) hs true in
     let z =
-        fold_from_yields_List _ (λ (t : Bool) x. t && int_eq x (pos 0)) true _ c.fold-no_count.ensures.ran
-        (YieldsList-from_slice cs cc) (λ t x b q k. search (rules, tests))
-        ∙ fold-all (λ x. int_eq x (pos 0)) cs true in
+    fold_from_yields_List _ (λ (t : Bool) x. t && int_eq x (pos 0)) true _ c.fold-no_count.ensures.ran
+    (YieldsList-from_slice cs cc) (λ t x b q k. search (rules, tests))
+    ∙ fold-all (λ x. int_eq x (pos 0)) cs true in
     ap₂ ◌&&◌ (ap₂ ◌&&◌ i h) z ∙ zero-columns a.n a.ids.now a.hashes.now a.counts.now c.requires

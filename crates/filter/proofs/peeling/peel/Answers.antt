@@ -1,11 +1,10 @@
 use mathlib.Core.Path.{◌≡◌, refl, sym, ◌∙◌}
 use mathlib.Core.Logic.{◌⊎◌, inl, inr}
 use mathlib.Core.Bool.{true}
-use mathlib.Core.List.{[], ◌∷◌}
-use Prim.Native.Nat.{◌+◌, ◌<◌}
+use Prim.Native.Nat.{◌<◌}
 use native.Mathlib.Omega.{arith}
 use lib.IntN.{pos}
-use lib.ListN.{length, get_or, length-append}
+use lib.ListN.{length, get_or}
 use mir.Syntax.{w64}
 use mir.Val.{SFits, to_z, of_z}
 use mir.ValLaws.{to_z-of_z}
@@ -13,27 +12,7 @@ use borrow.Author.Tests.{not-true, not-false}
 use Rattle.bucket.specs.Columns.{columns}
 use Rattle.bucket.specs.Lists.{elem}
 use Rattle.std.proofs.Common.{rules}
-use Rattle.filter.proofs.SpreadLaws.{sound_any}
-use Rattle.filter.proofs.StepLaws.{
-  Input,
-  State,
-  Found,
-  peeling_start,
-  peeling_wide,
-  peeling_small,
-  peeling_noted,
-  peeling_count,
-  peeling_looked,
-  peeling_ours,
-  peeling_theirs,
-  peeling_done,
-  least_in,
-  found-one,
-  found_abs,
-  peeling_stopped,
-  peeling_next,
-  bucket-read,
-}
+use Rattle.filter.proofs.StepLaws.{Input, State, Found, peeling_start, peeling_wide, peeling_noted, peeling_count, peeling_looked, peeling_ours, peeling_theirs, peeling_done, least_in, found-one, found_abs, peeling_stopped, peeling_next, bucket-read}
 use Rattle.filter.proofs.peeling.peel.Goals as goal
 use Rattle.filter.proofs.peeling.peel.Goals.{In-Some, After-unsalt-id, After-len, Joined-then-len-n, then-len-n-via-then-len-n, then-len-n-via-else-len-n+then-not-enroll}
 
@@ -76,7 +55,7 @@ loop-b-init c = let a = c.args in
     let r = c.requires in
     let given : Input = record { size = a.size; k = a.k; salt = a.salt; columns = columns a.ids.now a.hashes.now a.counts.now; ours = a.ours.now; theirs = a.theirs.now } in
     rw c.clear.ensures
-    (peeling_start given (record { sound = r.sound; wide = r.wide; ours = r.ours_room; theirs = r.theirs_room; small = r.small }) c.survey-shown.ensures)
+    (peeling_start given (record { sound = r.sound; wide = r.wide; ours = r.ours_room; theirs = r.theirs_room; small = r.small }) c.survey.ensures)
 
 pub overflow_add-looked : goal.overflow_add-looked
 overflow_add-looked c = omega (arith, few c)
@@ -122,9 +101,6 @@ returns-then-len-n-clause-looked c = let at = goal.at.returns-then-len-n-clause-
 more : (c : After-len) → (c.len.result ≡ c.args.size → ⊥) → length c.loop-b.trees < c.args.size
 more c ne = let p = c.loop-b.invariant in omega (arith, p.few, peeling_noted p, ne, c.len.ensures)
 
-pub enroll-requires : goal.enroll-requires
-enroll-requires c = omega (arith, more (goal.at.enroll-requires c).After-len c.if-len-n.false, c.requires.sound.most)
-
 pub enter-requires : goal.enter-requires
 enter-requires c = let p = c.loop-b.invariant in
     let room = more (goal.at.enter-requires c).After-len c.if-len-n.false in
@@ -134,19 +110,8 @@ enter-requires c = let p = c.loop-b.invariant in
       one = found-one p (found (goal.at.enter-requires c).After-unsalt-id);
     }
 
-pub take_out-requires : goal.take_out-requires
-take_out-requires c = let p = c.loop-b.invariant in record {
-  tables = c.requires.tables;
-  sound = sound_any c.args.size c.args.k c.args.salt c.requires.sound;
-  wide = peeling_wide p;
-  small = peeling_small p;
-  one = found_abs p (found (goal.at.take_out-requires c).After-unsalt-id);
-  shown = p.shown;
-}
-
-pub loop-b-smaller : goal.loop-b-smaller
-loop-b-smaller c = let room = more (goal.at.loop-b-smaller c).After-len c.if-len-n.false in
-    rw c.if-not-enroll.ensures.noted (omega (arith, room, length-append c.loop-b.trees (c.unsalt-id.result ∷ [])))
+pub take_out-requires-clause-one : goal.take_out-requires-clause-one
+take_out-requires-clause-one c = found_abs c.loop-b.invariant (found (goal.at.take_out-requires-clause-one c).After-unsalt-id)
 
 pub loop-b-preserved : goal.loop-b-preserved
 loop-b-preserved c = let p = c.loop-b.invariant in

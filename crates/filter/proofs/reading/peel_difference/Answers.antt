@@ -1,16 +1,13 @@
 -- `reading::peel_difference` meets its contract: the columns hold the difference and the lists zeros, and the peeling is the definition's.
 -- Assumes nothing.
-use mathlib.Core.Path.{sym, subst}
 use mathlib.Core.List.{[]}
-use Prim.Native.Nat.{ℕ, ◌≤◌, ◌^◌}
+use Prim.Native.Nat.{ℕ}
 use native.Mathlib.Omega.{arith}
-use lib.ListN.{length}
 use Rattle.bucket.specs.Bucket.{Bucket}
 use Rattle.bucket.specs.Columns.{Columns, columns, view}
 use Rattle.bucket.specs.Places.{place_count}
 use Rattle.filter.specs.Table.{first_eight, ids_of}
 use Rattle.filter.specs.Filter.{filter_rule, difference}
-use Rattle.filter.specs.Steps.{Wide, Small}
 use Rattle.filter.proofs.FilledLaws.{wide-filled}
 use Rattle.filter.proofs.PartLaws.{range-sound, small-difference}
 use Rattle.filter.proofs.TableLaws.{table-count, ids-length}
@@ -33,13 +30,12 @@ peel-requires c = let a = c.args in
     let e = c.subtract.ensures in record {
       tables = c.tables-tab.ensures;
       sound = rw c.place_count-k.ensures (range-sound a.size a.salt r.range);
-      wide = subst (Wide a.size) (sym e) (wide-filled a.size a.size (minus (goal.at.peel-requires c).Start) (received (goal.at.peel-requires c).Start) r.wide);
-      small = subst (Small a.size (2 ^ 34)) (sym e)
-          (small-difference (filter_rule a.size a.salt) (ids_of first_eight a.table.now) a.size (received (goal.at.peel-requires c).Start) r.wide r.counts
+      wide = rw e (wide-filled a.size a.size (minus (goal.at.peel-requires c).Start) (received (goal.at.peel-requires c).Start) r.wide);
+      small = rw e (small-difference (filter_rule a.size a.salt) (ids_of first_eight a.table.now) a.size (received (goal.at.peel-requires c).Start) r.wide r.counts
           (omega (arith, ids-length first_eight a.table.now, table-count a.table.now r.table)));
-      ours_room = subst (λ l. a.size ≤ length l) (sym c.clear_list.ensures)
+      ours_room = rw c.clear_list.ensures
           (omega (arith, listed-length a.size [] a.ours.now (omega arith) c.requires.ours-room, c.requires.ours-room));
-      theirs_room = subst (λ l. a.size ≤ length l) (sym c.clear_list-2.ensures)
+      theirs_room = rw c.clear_list-2.ensures
           (omega (arith, listed-length a.size [] a.theirs.now (omega arith) c.requires.theirs-room, c.requires.theirs-room));
     }
 

@@ -31,5 +31,5 @@ returns-then-at-count c = let t = c.args.table.now in
     let held = holds-there (hashes_of t) (get_or (hashes_of h) 0 0) at.ensures (omega arith) in
     let long = le-leb 64 (length h) (omega arith) in
     let told : pointwise eqb c.bytes_of.result.now c.bytes_of-then-at-count.result.now ≡ leb 64 (length h) && holds (hashes_of t) (get_or (hashes_of h) 0 0) =
-        rw (c.bytes_of.ensures, c.bytes_of-then-at-count.ensures, same, ← hash-bytes t at.result inside, ← hash-bytes h 0 (omega arith), held, long) in
+    rw (c.bytes_of.ensures, c.bytes_of-then-at-count.ensures, same, ← hash-bytes t at.result inside, ← hash-bytes h 0 (omega arith), held, long) in
     cc

@@ -8,7 +8,7 @@ use lib.Dec.{leb}
 use lib.ListN.{length, length-append}
 use Rattle.bucket.specs.Lists.{over}
 use Rattle.session.proofs.ChunkLaws.{ids_in, ids-cons, ids_none, lent-length, lent_over}
-use Rattle.session.proofs.PlaceLaws.{held_none, place-placed, place-size, table-short}
+use Rattle.session.proofs.PlaceLaws.{held_none, place-placed, place-short, hash-size, table-short}
 use Rattle.session.proofs.AskLaws.{asking-start, asking_passes, asking-stops, asking-next, asking-end}
 use Rattle.session.proofs.asking.ask_all.Goals as goal
 use Rattle.session.proofs.asking.ask_all.Goals.{After-number_at, After-hash_at, then-is_asked-via-then-is_asked, then-is_asked-via-else-is_asked+then-m-ge4096}
@@ -30,11 +30,8 @@ loop-id-init c = let a = c.args in
     rw (c.into_iter-id-iterator.ensures.into_iter_gives, c.chunks_exact-id-items.ensures.rest, c.chunks_exact-id-items.ensures.size) record {
       size = refl;
       whole = c.requires.1;
-      walk = asking-start a.table.now a.known.now a.marks.now a.hashes.now (ids_in a.ids.now);
+      walk = asking-start a.tables.table.now a.tables.known.now a.marks.now a.hashes.now (ids_in a.ids.now);
     }
-
-pub place_of-requires : goal.place_of-requires
-place_of-requires c = (table-short c.args.table.now c.requires.0.table-good, table-short c.args.known.now c.requires.0.known-good)
 
 pub loop-id-preserved-in_default : goal.loop-id-preserved-in_default
 loop-id-preserved-in_default c = let at = (goal.at.loop-id-preserved-in_default c).After-number_at in
@@ -64,15 +61,14 @@ returns-then-is_asked c = (
 )
 
 pub hash_at-requires : goal.hash_at-requires
-hash_at-requires c = let k = c.requires.0 in
-    let place = c.in-Some-place_of.ensures in
-    place-placed c.args.table.now c.args.known.now c.number_at.result
-    (table-short c.args.table.now k.table-good) (table-short c.args.known.now k.known-good) place.0 place.1
+hash_at-requires c = let place = c.in-Some-place_of.ensures in
+    place-placed c.args.tables.table.now c.args.tables.known.now c.number_at.result
+    (table-short c.args.tables.table.now c.args.tables.table_good) (table-short c.args.tables.known.now c.args.tables.known_good) place.0 place.1
 
 pub copy_from_slice-requires : goal.copy_from_slice-requires
 copy_from_slice-requires c =
     lent-length (64 * c.loop-id.m) 64 c.loop-id.hashes (room (goal.at.copy_from_slice-requires c).After-hash_at)
-    ∙ sym (place-size c.args.table.now c.args.known.now c.in-Some-place_of.p c.hash_at.ensures)
+    ∙ sym (hash-size _ (place-short c.args.tables.table.now c.args.tables.known.now c.in-Some-place_of.p) c.hash_at.ensures)
 
 pub loop-id-preserved : goal.loop-id-preserved
 loop-id-preserved c = let at = (goal.at.loop-id-preserved c).After-number_at in
@@ -85,7 +81,7 @@ loop-id-preserved c = let at = (goal.at.loop-id-preserved c).After-number_at in
       walk =
           asking-next c.loop-id.invariant.walk (left at) c.in-Some-place_of.ensures.0 (sym c.is_held.ensures ∙ c.if-not-is_held.false)
           (ap₂ ◌||◌ (sym c.is_asked.ensures ∙ c.if-is_asked.false) (lt-leb 4096 c.loop-id.m c.if-m-ge4096.false)) c.requires.2
-          (lent_over (64 * c.loop-id.m) 64 c.loop-id.hashes c.copy_from_slice.new.self (place-size a.table.now a.known.now p copied)
+          (lent_over (64 * c.loop-id.m) 64 c.loop-id.hashes c.copy_from_slice.new.self (hash-size _ (place-short a.tables.table.now a.tables.known.now p) copied)
           ∙ ap (λ (bs : List ℕ). over (64 * c.loop-id.m) bs c.loop-id.hashes) copied);
     }
 

@@ -10,5 +10,5 @@ abbrev pub invariant-loop-id : goal.invariant-loop-id
 invariant-loop-id l = record {
   size : l.id-iterator.size ≡ 8;
   whole : length l.id-iterator.rest.now % 8 ≡ 0;
-  walk : Asking l.table l.known l.initial.marks l.initial.hashes (ids_in l.ids) l.marks l.hashes l.m (ids_in l.id-iterator.rest.now);
+  walk : Asking l.tables.table.now l.tables.known.now l.initial.marks l.initial.hashes (ids_in l.ids) l.marks l.hashes l.m (ids_in l.id-iterator.rest.now);
 }

@@ -8,7 +8,6 @@ use Rattle.bucket.proofs.TestLaws.{and_fails, and_holds}
 use Rattle.filter.specs.Table.{hashes_of}
 use Rattle.ledger.specs.Memory.{is_served}
 use Rattle.session.proofs.ChunkLaws.{hashes-cons, hashes_none}
-use Rattle.session.proofs.PlaceLaws.{table-short}
 use Rattle.session.proofs.AskLaws.{serving-start, serving-nowhere, serving_unfit, serving-next, serving-end, unserved_room}
 use Rattle.session.proofs.asking.serve_all.Goals as goal
 use Rattle.session.proofs.asking.serve_all.Goals.{In-Some, Else-is_served, then-not-is_offered-via-then-not-is_offered, then-not-is_offered-via-else-not-is_offered+then-is_served}
@@ -25,15 +24,11 @@ pub loop-hash-init : goal.loop-hash-init
 loop-hash-init c = let a = c.args in
     rw (c.into_iter-hash-iterator.ensures.into_iter_gives, c.chunks_exact-hash-items.ensures.rest, c.chunks_exact-hash-items.ensures.size) record {
       size = refl;
-      walk = serving-start a.table.now a.known.now a.marks.now (hashes_of a.hashes.now);
+      walk = serving-start a.tables.table.now a.tables.known.now a.marks.now (hashes_of a.hashes.now);
     }
 
 pub place_of_hash-requires : goal.place_of_hash-requires
-place_of_hash-requires c = (
-  table-short c.args.table.now c.requires.table-good,
-  table-short c.args.known.now c.requires.known-good,
-  c.in-Some.ensures.steps.1.1 ∙ c.loop-hash.invariant.size,
-)
+place_of_hash-requires c = c.in-Some.ensures.steps.1.1 ∙ c.loop-hash.invariant.size
 
 pub returns-in_default : goal.returns-in_default
 returns-in_default c = (refl, serving-nowhere c.loop-hash.invariant.walk (left (goal.at.returns-in_default c).In-Some) (sym c.in_default.ensures) refl)

@@ -7,5 +7,5 @@ use Rattle.session.proofs.asking.serve_all.Given as goal
 abbrev pub invariant-loop-hash : goal.invariant-loop-hash
 invariant-loop-hash l = record {
   size : l.hash-iterator.size ≡ 64;
-  walk : Serving l.table l.known l.initial.marks (hashes_of l.hashes) l.marks (hashes_of l.hash-iterator.rest.now);
+  walk : Serving l.tables.table.now l.tables.known.now l.initial.marks (hashes_of l.hashes) l.marks (hashes_of l.hash-iterator.rest.now);
 }

@@ -1,11 +1,12 @@
-use mathlib.Core.Path.{refl, ap, ◌∙◌}
+use mathlib.Core.Path.{refl, sym, ap, ◌∙◌}
 use mathlib.Core.List.{List}
-use Prim.Native.Nat.{ℕ, ◌*◌, ◌/◌, ◌<◌}
+use Rattle.message.proofs.RoundLaws.{hashes-below}
+use Prim.Native.Nat.{ℕ, ◌+◌, ◌≤◌, ◌*◌, ◌/◌, ◌<◌}
 use native.Mathlib.Omega.{arith}
 use lib.ListN.{length}
 use Rattle.bucket.specs.Lists.{over}
-use Rattle.session.proofs.ChunkLaws.{lent, lent-length, lent_over}
-use Rattle.session.proofs.PlaceLaws.{table-short}
+use Rattle.session.proofs.ChunkLaws.{lent-length, lent_over}
+use Rattle.session.proofs.PlaceLaws.{table-short, hash-size}
 use Rattle.session.proofs.OfferAllLaws.{offering_start, offered-place, offering_next, offering_end}
 use Rattle.session.proofs.filters.offer_all.Goals as goal
 use Rattle.session.proofs.filters.offer_all.Goals.{After-id_position-p}
@@ -21,28 +22,21 @@ loop-i-init c = let a = c.args in
 pub bounds-marks-p : goal.bounds-marks-p
 bounds-marks-p c = omega (arith, there c, table-short c.args.table.now c.requires.0.table-good, c.requires.0.marks-room, c.loop-i.invariant.same)
 
-pub overflow_mul-p : goal.overflow_mul-p
-overflow_mul-p c = omega (arith, there (goal.at.overflow_mul-p c).After-id_position-p, table-short c.args.table.now c.requires.0.table-good)
+pub nth_hash-requires : goal.nth_hash-requires
+nth_hash-requires c = omega (arith, there (goal.at.nth_hash-requires c).After-id_position-p)
 
-pub overflow_mul-p-in-loop-i : goal.overflow_mul-p-in-loop-i
-overflow_mul-p-in-loop-i c = omega (arith, there (goal.at.overflow_mul-p-in-loop-i c).After-id_position-p, table-short c.args.table.now c.requires.0.table-good)
-
-pub overflow_add-p : goal.overflow_add-p
-overflow_add-p c = omega (arith, there (goal.at.overflow_add-p c).After-id_position-p, table-short c.args.table.now c.requires.0.table-good)
-
-pub slice_bounds-copy_from_slice-end-in-loop-i : goal.slice_bounds-copy_from_slice-end-in-loop-i
-slice_bounds-copy_from_slice-end-in-loop-i c = omega (arith, there (goal.at.slice_bounds-copy_from_slice-end-in-loop-i c).After-id_position-p)
+pub copy_from_slice-requires : goal.copy_from_slice-requires
+copy_from_slice-requires c = let a = c.args in
+    let room : 64 * c.loop-i.i + 64 ≤ length c.loop-i.hashes = omega (arith, c.loop-i-test.true, c.requires.1, c.requires.2, c.loop-i.invariant.gathering.same) in
+    lent-length (64 * c.loop-i.i) 64 c.loop-i.hashes room ∙ sym (hash-size _ (hashes-below a.table.now c.id_position-p.result) c.nth_hash.ensures)
 
 pub loop-i-preserved : goal.loop-i-preserved
 loop-i-preserved c = let a = c.args in
     let i = c.loop-i.i in
-    let p = c.id_position-p.result in
-    let copied = c.copy_from_slice.ensures.after in
-    offering_next c.loop-i.invariant c.requires.0 c.loop-i-test.true refl c.id_position-p.ensures (λ n. (c.type_inv.table n).fits)
-    (omega (arith, c.loop-i-test.true, c.requires.1, c.requires.2))
-    (lent_over (64 * i) 64 c.loop-i.hashes c.copy_from_slice.new.self
-    (ap length copied ∙ lent-length (64 * p) 64 a.table.now (omega (arith, there (goal.at.loop-i-preserved c).After-id_position-p)))
-    ∙ ap (λ (bs : List ℕ). over (64 * i) bs c.loop-i.hashes) (copied ∙ lent (64 * p) 64 a.table.now))
+    let copied = c.copy_from_slice.ensures.after ∙ c.nth_hash.ensures in
+    offering_next c.loop-i.invariant c.requires.0 c.loop-i-test.true refl c.id_position-p.ensures (omega (arith, c.loop-i-test.true, c.requires.1, c.requires.2))
+    (lent_over (64 * i) 64 c.loop-i.hashes c.copy_from_slice.new.self (hash-size _ (hashes-below a.table.now c.id_position-p.result) copied)
+    ∙ ap (λ (bs : List ℕ). over (64 * i) bs c.loop-i.hashes) copied)
 
 pub returns : goal.returns
 returns c = offering_end c.loop-i.invariant c.loop-i-test.false

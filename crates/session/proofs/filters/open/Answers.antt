@@ -17,8 +17,11 @@ use Rattle.ledger.proofs.RoomLaws.{done-length}
 use Rattle.session.proofs.OpenTurns.{sent_then, told-room, table-check, nothing_known, opened-none, opened_some}
 use Rattle.session.proofs.filters.open.Goals as goal
 
+pub invariant_of-tables : goal.invariant_of-tables
+invariant_of-tables c = record { table_good = c.requires.0.table-good; known_good = nothing_known }
+
 pub checksum-check-requires : goal.checksum-check-requires
-checksum-check-requires c = record { table-good = c.requires.0.table-good; known-good = nothing_known; marks-room = omega (arith, c.requires.0.marks-room, c.tell-sent.auto.marks) }
+checksum-check-requires c = omega (arith, c.requires.0.marks-room, c.tell-sent.auto.marks)
 
 pub send_done-end-requires : goal.send_done-end-requires
 send_done-end-requires c = let told = c.tell-sent in

@@ -43,7 +43,7 @@ copy_from_slice-requires c = sym (length-take-le 8192 c.args.marks.now c.require
 
 pub ask_all-requires : goal.ask_all-requires
 ask_all-requires c = (
-  record { table-good = c.requires.0.table-good; known-good = c.requires.0.known-good; marks-room = omega arith },
+  omega arith,
   omega (arith, lent-length 8 (8 * c.args.n) c.args.message.now c.requires.3),
   omega arith,
 )

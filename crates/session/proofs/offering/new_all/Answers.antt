@@ -10,7 +10,6 @@ use Rattle.bucket.proofs.DigitLaws.{joined_lt, groups-joined}
 use Rattle.filter.specs.Table.{hashes_of}
 use Rattle.filter.proofs.TableLaws.{hashes-length}
 use Rattle.session.proofs.ChunkLaws.{front-below, rest-below, hashes-cons, hashes_none, lent_over}
-use Rattle.session.proofs.PlaceLaws.{table-short}
 use Rattle.session.proofs.OfferLaws.{offering_start, offering_known, offering_bad, offering_new, offering_end}
 use Rattle.session.proofs.offering.new_all.Goals as goal
 use Rattle.session.proofs.offering.new_all.Goals.{In-Some}
@@ -23,20 +22,20 @@ left : (c : In-Some) → hashes_of c.loop-hash.hash-iterator.rest.now ≡ joined
 left c = hashes-cons c.in-Some.hash.now c.next.new.self.rest.now c.in-Some.ensures.steps.1.0 (size c)
 
 many : (c : In-Some) → length (hashes_of c.args.offered.now) ≤ 1023
-many c = omega (arith, hashes-length c.args.offered.now, c.requires.3)
+many c = omega (arith, hashes-length c.args.offered.now, c.requires.1)
 
 few : (c : In-Some) → c.loop-hash.m < 1023
 few c = omega (arith, c.loop-hash.invariant.walk.few, ap length (left c), many c)
 
 room : (c : In-Some) → 64 * c.loop-hash.m + 64 ≤ length c.loop-hash.fresh
-room c = omega (arith, few c, c.loop-hash.invariant.walk.same, c.requires.4)
+room c = omega (arith, few c, c.loop-hash.invariant.walk.same, c.requires.2)
 
 pub loop-hash-init : goal.loop-hash-init
 loop-hash-init c = let a = c.args in
     rw (c.into_iter-hash-iterator.ensures.into_iter_gives, c.chunks_exact-hash-items.ensures.rest, c.chunks_exact-hash-items.ensures.size) record {
       size = refl;
       bytes = λ i. (c.type_inv.offered i).fits;
-      walk = offering_start a.table.now a.known.now a.inquired.now a.active (hashes_of a.offered.now) a.fresh.now a.hashes.now;
+      walk = offering_start a.tables.table.now a.tables.known.now a.inquired.now a.active (hashes_of a.offered.now) a.fresh.now a.hashes.now;
     }
 
 pub slice_bounds-judge_item-end : goal.slice_bounds-judge_item-end
@@ -48,23 +47,21 @@ slice_bounds-judge_item-end-in-loop-hash c = let at = c.loop-hash in
 
 pub judge_item-requires : goal.judge_item-requires
 judge_item-requires c = let at = (goal.at.judge_item-requires c).In-Some in (
-  table-short c.args.table.now c.requires.0,
-  table-short c.args.known.now c.requires.1,
   omega (arith, few at, length-take (64 * c.loop-hash.m) c.loop-hash.fresh),
-  c.requires.2,
+  c.requires.0,
   size at,
 )
 
 pub returns-in-Bad-clause-walked : goal.returns-in-Bad-clause-walked
 returns-in-Bad-clause-walked c = let at = (goal.at.returns-in-Bad-clause-walked c).In-Some in
-    (refl, offering_bad c.loop-hash.invariant.walk (left at) (many at) c.requires.4 c.judge_item.ensures c.in-Bad.is)
+    (refl, offering_bad c.loop-hash.invariant.walk (left at) (many at) c.requires.2 c.judge_item.ensures c.in-Bad.is)
 
 pub insert_hash-requires : goal.insert_hash-requires
 insert_hash-requires c = let at = (goal.at.insert_hash-requires c).In-Some in
     (room at, size at, omega (arith, few at))
 
 pub slice_bounds-copy_from_slice-end : goal.slice_bounds-copy_from_slice-end
-slice_bounds-copy_from_slice-end c = omega (arith, few (goal.at.slice_bounds-copy_from_slice-end c).In-Some, c.loop-hash.invariant.walk.gathering.same, c.requires.5)
+slice_bounds-copy_from_slice-end c = omega (arith, few (goal.at.slice_bounds-copy_from_slice-end c).In-Some, c.loop-hash.invariant.walk.gathering.same, c.requires.3)
 
 pub loop-hash-preserved-in-New : goal.loop-hash-preserved-in-New
 loop-hash-preserved-in-New c = let at = (goal.at.loop-hash-preserved-in-New c).In-Some in
@@ -76,7 +73,7 @@ loop-hash-preserved-in-New c = let at = (goal.at.loop-hash-preserved-in-New c).I
       size = step.0 ∙ c.loop-hash.invariant.size;
       bytes = rest-below h rest step.1.0 c.loop-hash.invariant.bytes;
       walk =
-          offering_new c.loop-hash.invariant.walk (left at) (many at) c.requires.4 c.judge_item.ensures c.in-New.is c.requires.5
+          offering_new c.loop-hash.invariant.walk (left at) (many at) c.requires.2 c.judge_item.ensures c.in-New.is c.requires.3
           (rw (size at) at (joined_lt 8 h)) (rw (size at) at (groups-joined 8 h (front-below h rest step.1.0 c.loop-hash.invariant.bytes))) put.0 put.2 c.insert_hash.auto.hashes
           (lent_over (64 * c.loop-hash.m) 64 c.loop-hash.hashes c.copy_from_slice.new.self (ap length c.copy_from_slice.ensures.after ∙ size at)
           ∙ ap (λ (bs : List ℕ). over (64 * c.loop-hash.m) bs c.loop-hash.hashes) c.copy_from_slice.ensures.after);
@@ -90,7 +87,7 @@ loop-hash-preserved c = let at = (goal.at.loop-hash-preserved c).In-Some in
     record {
       size = step.0 ∙ c.loop-hash.invariant.size;
       bytes = rest-below h rest step.1.0 c.loop-hash.invariant.bytes;
-      walk = offering_known c.loop-hash.invariant.walk (left at) (many at) c.requires.4 c.judge_item.ensures c.in-Known.is;
+      walk = offering_known c.loop-hash.invariant.walk (left at) (many at) c.requires.2 c.judge_item.ensures c.in-Known.is;
     }
 
 pub returns-clause-walked : goal.returns-clause-walked

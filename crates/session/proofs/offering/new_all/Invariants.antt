@@ -9,5 +9,5 @@ abbrev pub invariant-loop-hash : goal.invariant-loop-hash
 invariant-loop-hash l = record {
   size : l.hash-iterator.size ≡ 64;
   bytes : Below 8 l.hash-iterator.rest.now;
-  walk : Offering l.table l.known l.inquired l.active (hashes_of l.offered) l.initial.fresh l.initial.hashes l.fresh l.hashes l.m (hashes_of l.hash-iterator.rest.now);
+  walk : Offering l.tables.table.now l.tables.known.now l.inquired l.active (hashes_of l.offered) l.initial.fresh l.initial.hashes l.fresh l.hashes l.m (hashes_of l.hash-iterator.rest.now);
 }

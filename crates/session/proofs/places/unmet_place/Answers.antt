@@ -1,13 +1,9 @@
 -- `places::unmet_place` meets its contract: each test that fails makes the place none. Assumes nothing.
 use mathlib.Core.Path.{sym, ap, ◌∙◌}
 use Rattle.session.specs.Moves.{unmet_at}
-use Rattle.session.proofs.PlaceLaws.{table-short, unmet_outside, unmet_nowhere, unmet-met, unmet-there}
+use Rattle.session.proofs.PlaceLaws.{unmet_outside, unmet_nowhere, unmet-met, unmet-there}
 use Rattle.session.proofs.places.unmet_place.Goals as goal
 use Rattle.session.proofs.places.unmet_place.Goals.{then-p-lt-RECORDS-via-then-p-lt-RECORDS, then-p-lt-RECORDS-via-else-p-lt-RECORDS+then-is_met}
-
-pub place_of_hash-requires : goal.place_of_hash-requires
-place_of_hash-requires c = let k = c.requires.0 in
-    (table-short c.args.table.now k.table-good, table-short c.args.known.now k.known-good, c.requires.1)
 
 pub returns-in_err-p : goal.returns-in_err-p
 returns-in_err-p c = rw c.from_residual.ensures (unmet_nowhere c.args.marks.now _ c.in_err-p.ensures)

@@ -1,7 +1,0 @@
--- `messages::tandawire_element_write` meets its contract, which is that of `writing::element` with its answer as numbers. Assumes nothing.
-use mathlib.Core.Path.{ap}
-use Rattle.message.specs.Writing.{write_numbers}
-use Rattle.tandawire.proofs.messages.tandawire_element_write.Goals as goal
-
-pub returns : goal.returns
-returns c = rw c.write_numbers.ensures (ap write_numbers c.element.ensures)
