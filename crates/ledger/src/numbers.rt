@@ -35,7 +35,8 @@ pub struct Numbers {
     pub inquired: u32,
 }
 
-// What a call answers: the refusal's number (`refusal_number` of `filter::answers::Refusal`, 0 for none: C reads it), how many bytes of messages were written, how many bare hashes, and the session's numbers now.
+// What a call answers: the refusal's number, 0 for none (C reads it: `filter::answers::Refusal` is the enum), how many bytes of messages were written,
+// how many bare hashes, and the session's numbers now.
 #[repr(C)]
 #[derive(Clone, Copy)]
 pub struct Answer {
