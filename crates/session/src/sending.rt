@@ -1,4 +1,5 @@
 // Messages written where there is room for them: each answers the position behind what it wrote.
+// One function a writer, since each asks of its callers its own range and room: with these a writer is never refused.
 ghost use Rattle.std.specs.Prelude.{◌≡◌, [], ◌∷◌, ◌+◌, ◌≤◌, ◌<◌, ◌%◌, length, take};
 ghost use Rattle.bucket.specs.Digits.{joined};
 ghost use Rattle.bucket.specs.Lists.{over};
