@@ -150,38 +150,6 @@ module _ (p : ℕ → Bool) where
 
 -- ---- in a list
 
--- a search that has come to the positions from lo to hi
-pub record Halving (l : List ℕ) (a lo hi : ℕ) : Type 0 where
-  pub order : lo ≤ hi
-  pub within : hi ≤ length l
-  pub rest : bisect (λ i. ltb (get_or l i 0) a) (length l) lo hi ≡ position l a
-
-pub halving_start : (l : List ℕ) (a hi : ℕ) → hi ≡ length l → Halving l a 0 hi
-unfolding position
-halving_start l a hi e = record {
-  order = omega arith;
-  within = omega arith;
-  rest = ap (bisect (λ i. ltb (get_or l i 0) a) (length l) 0) e;
-}
-
-module _ {l : List ℕ} {a lo hi : ℕ} (s : Halving l a lo hi) where
-  pub halving_right : lo < hi → ltb (get_or l ((lo + hi) / 2) 0) a ≡ true → Halving l a ((lo + hi) / 2 + 1) hi
-  halving_right h e = record {
-    order = omega arith;
-    within = s.within;
-    rest = sym (bisect-right (λ i. ltb (get_or l i 0) a) (length l) lo hi (omega (arith, s.within)) h e) ∙ s.rest;
-  }
-
-  pub halving_left : lo < hi → ltb (get_or l ((lo + hi) / 2) 0) a ≡ false → Halving l a lo ((lo + hi) / 2)
-  halving_left h e = record {
-    order = omega arith;
-    within = omega (arith, s.within);
-    rest = sym (bisect-left (λ i. ltb (get_or l i 0) a) (length l) lo hi (omega (arith, s.within)) h e) ∙ s.rest;
-  }
-
-  pub halving_end : hi ≤ lo → lo ≡ position l a
-  halving_end h = sym (bisect-done (λ i. ltb (get_or l i 0) a) (length l) lo hi h) ∙ s.rest
-
 -- a search that asks of the positions of a list, which are n, whether the number there is below a
 pub position_asked : (l : List ℕ) (a : ℕ) {n r : ℕ} → n ≡ length l → r ≡ bisect (λ i. ltb (get_or l i 0) a) n 0 n → r ≡ position l a
 unfolding position

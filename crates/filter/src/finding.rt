@@ -57,11 +57,8 @@ pub(crate) fn is_held(table: Table<'_>, hints: Option<&Hints>, id: u64) -> bool
 fn place_before(table: Table<'_>, id: u64, from: u16) -> usize
     ensures { result ≤ 65539 }
 {
-    let from = from as usize;
-    for p in from..from + 4 {
-        if id <= table.element_id(p + 1) {
-            return p;
-        }
-    }
-    from + 4
+    let from = usize::from(from);
+    (from..from + 4)
+        .find(|p| id <= table.element_id(*p + 1))
+        .unwrap_or(from + 4)
 }

@@ -72,7 +72,7 @@ impl Trees {
         self.links[2 * n] = 0;
         self.links[2 * n + 1] = 0;
         self.seen[n] = v;
-        self.n = n + 1;
+        self.n += 1;
         true
     }
 }
@@ -97,7 +97,7 @@ fn find(heads: &[u16; 4096], links: &[u16; 8192], seen: &[u64], v: u64) -> Place
     let mut w = v / 4096;
     while seen[k] != v {
         let at = 2 * k + (w % 2) as usize;
-        let Some(next) = (links[at] as usize).checked_sub(1) else {
+        let Some(next) = usize::from(links[at]).checked_sub(1) else {
             return Place::Link(at);
         };
         k = next;
@@ -110,7 +110,7 @@ fn find(heads: &[u16; 4096], links: &[u16; 8192], seen: &[u64], v: u64) -> Place
 fn root(heads: &[u16; 4096], seen: &[u64], v: u64) -> Option<usize>
     ensures { Root heads.now seen.now (v % 4096) result }
 {
-    let p = (heads[(v % 4096) as usize] as usize).checked_sub(1)?;
+    let p = usize::from(heads[(v % 4096) as usize]).checked_sub(1)?;
     let first = *seen.get(p)?;
     if first % 4096 == v % 4096 {
         Some(p)

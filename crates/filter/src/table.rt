@@ -56,14 +56,7 @@ pub fn element_id(table: &[u8], i: usize) -> u64
 pub fn is_table(table: &[u8]) -> bool
     ensures { result ≡ is_table first_eight table.now }
 {
-    if table.len() % 64 != 0 {
-        return false;
-    }
-    let n = count(table);
-    if 4096 < n {
-        return false;
-    }
-    ids_ascend(table, n)
+    table.len() % 64 == 0 && count(table) <= 4096 && ids_ascend(table)
 }
 
 // Where a binary search for an ID ends: in a table, the first hash whose ID is not below it.
@@ -103,13 +96,12 @@ pub fn holds_hash(table: &[u8], hash: &[u8]) -> bool
     at < count(table) && bytes_of(table, at) == bytes_of(hash, 0)
 }
 
-// The n IDs, from the second on, are each above the one before.
-fn ids_ascend(table: &[u8], n: usize) -> bool
-    requires { n ≡ length (hashes_of table.now) }
+// The IDs, from the second on, are each above the one before.
+fn ids_ascend(table: &[u8]) -> bool
     ensures { result ≡ ascending (ids_of first_eight table.now) }
 {
     let mut last = element_id(table, 0);
-    for e in 1..n {
+    for e in 1..count(table) {
         let id = element_id(table, e);
         if id <= last {
             return false;

@@ -1,23 +1,33 @@
 // One message put into a lent buffer, where there is room for it. A filter comes in three columns, which document 01 asks to be lent side by side.
-ghost use Rattle.std.specs.Prelude.{◌≡◌, ◌+◌, ◌*◌, ◌≤◌, length};
+ghost use Rattle.std.specs.Prelude.{◌≡◌, ◌+◌, ◌*◌, ◌≤◌, length, [], ◌∷◌};
 ghost use Rattle.bucket.specs.Columns.{columns};
+ghost use Rattle.bucket.specs.Digits.{packed};
 ghost use Rattle.bucket.specs.Lists.{over};
+ghost use Rattle.message.specs.Kinds.{type_of};
 ghost use Rattle.message.specs.Layout.{inquiry, layout, framed, in_slice, slice_bytes};
 ghost use Rattle.message.specs.Writing.{slice_at, layouts, slices_of};
 ghost use Rattle.message.specs.Putting.{head_of, SlicePut, FilterPut, filter_bytes};
 
 use crate::copying::{put_numbers, put_pair};
-use crate::kinds::{INQUIRY, Slice};
+use crate::kinds::{Kind, Slice};
 use crate::slices::{SECOND, in_slice, slice_bytes, slice_type};
 
+// MSG SIZE and MSG TYPE, which every message begins with.
+fn put_start(kind: Kind, size: usize, out: &mut [u8], at: usize)
+    requires { at + 4 ≤ length out.old }
+    ensures { out.new ≡ over at (packed 16 (size ∷ type_of kind ∷ [])) out.old }
+{
+    put_pair(out, at, 2, size as u64, u64::from(u32::from(kind)));
+}
+
 // MSG SIZE and MSG TYPE before bytes that are copied; answers the position behind them.
-pub(crate) fn put_framed(kind: u32, bytes: &[u8], out: &mut [u8], at: usize) -> usize
+pub(crate) fn put_framed(kind: Kind, bytes: &[u8], out: &mut [u8], at: usize) -> usize
     requires { at + (4 + length bytes.now) ≤ length out.old }
     ensures next { result ≡ at + (4 + length bytes.now) }
-    ensures put { out.new ≡ over at (framed kind bytes.now) out.old }
+    ensures put { out.new ≡ over at (framed (type_of kind) bytes.now) out.old }
 {
     let size = 4 + bytes.len();
-    put_pair(out, at, 2, size as u64, u64::from(kind));
+    put_start(kind, size, out, at);
     out[at + 4..at + size].copy_from_slice(bytes);
     at + size
 }
@@ -28,7 +38,7 @@ pub(crate) fn put_inquiry(ids: &[u64], salt: u32, out: &mut [u8], at: usize) -> 
     ensures next { result ≡ at + (8 + 8 * length ids.now) }
     ensures put { out.new ≡ over at (layout (inquiry salt ids.now)) out.old }
 {
-    put_pair(out, at, 2, (8 + 8 * ids.len()) as u64, u64::from(INQUIRY));
+    put_start(Kind::Inquiry, 8 + 8 * ids.len(), out, at);
     bucket::bytes::put_number(out, at + 4, 4, u64::from(salt));
     put_numbers(ids, out, at + 8)
 }
@@ -47,9 +57,7 @@ fn put_head(slice: Slice, out: &mut [u8], at: usize) -> usize
         width,
         count,
     } = slice;
-    let total = slice_bytes(width, count);
-    let kind = slice_type(size, offset);
-    put_pair(out, at, 2, total as u64, u64::from(kind));
+    put_start(slice_type(size, offset), slice_bytes(width, count), out, at);
     put_pair(out, at + 4, 4, u64::from(size), u64::from(offset));
     put_pair(out, at + 12, 2, u64::from(salt), u64::from(width));
     at + 16

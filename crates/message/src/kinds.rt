@@ -7,19 +7,19 @@ ghost use Rattle.message.specs.Writing.{written_of};
 use filter::answers::Refusal;
 
 // MSG TYPE: the numbers registered in the GANA section of the set union draft (document 01, "Messages").
-pub const DEMAND: u32 = 560;
+const DEMAND: u32 = 560;
 
-pub const INQUIRY: u32 = 561;
+const INQUIRY: u32 = 561;
 
-pub const OFFER: u32 = 562;
+const OFFER: u32 = 562;
 
-pub const IBF: u32 = 565;
+const IBF: u32 = 565;
 
-pub const ELEMENT: u32 = 566;
+const ELEMENT: u32 = 566;
 
-pub const IBF_LAST: u32 = 567;
+const IBF_LAST: u32 = 567;
 
-pub const DONE: u32 = 568;
+const DONE: u32 = 568;
 
 // The kinds of messages, in the order of the grid's columns.
 #[derive(Clone, Copy, PartialEq, Eq)]

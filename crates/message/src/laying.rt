@@ -8,7 +8,7 @@ ghost use Rattle.message.specs.Laying.{lay, lay_call};
 ghost use Rattle.message.specs.Putting.{lay_buckets};
 
 use crate::copying::Number;
-use crate::kinds::Message;
+use crate::kinds::{Message, Slice};
 use filter::answers::Refusal;
 
 // Lays the slice of an IBF or IBF LAST message into the columns, from its offset on. Refused: a column too short for it, or no such message;
@@ -21,32 +21,29 @@ pub fn lay(s: &[u8], ids: &mut [u64], hashes: &mut [u32], counts: &mut [i64]) ->
     let Some(slice) = crate::reading::read(s).and_then(Message::slice) else {
         return Err(Refusal::Malformed);
     };
-    lay_slice(
-        s,
-        slice.offset,
-        slice.width,
-        slice.count,
-        ids,
-        hashes,
-        counts,
-    )
+    lay_slice(s, slice, ids, hashes, counts)
 }
 
-// The n buckets that stand in a message's bytes, laid from an offset on.
+// The buckets of a slice that stand in its message's bytes, laid from its offset on.
 #[tactic(auto, unfolding(crate::specs::Putting::lay_buckets))]
 fn lay_slice(
     s: &[u8],
-    offset: u32,
-    width: u32,
-    n: usize,
+    slice: Slice,
     ids: &mut [u64],
     hashes: &mut [u32],
     counts: &mut [i64],
 ) -> Result<(), Refusal>
-    requires { (offset ≤ 4096) × (n ≤ 2520) × (takes width n (16 + 12 * n) (length s.now) ≡ true) }
+    requires { (slice.offset ≤ 4096) × (slice.count ≤ 2520)
+        × (takes slice.width slice.count (16 + 12 * slice.count) (length s.now) ≡ true) }
     ensures { lay (result_err result) (columns ids.new hashes.new counts.new)
-        ≡ lay_buckets offset width n s.now (columns ids.old hashes.old counts.old) }
+        ≡ lay_buckets slice.offset slice.width slice.count s.now (columns ids.old hashes.old counts.old) }
 {
+    let Slice {
+        offset,
+        width,
+        count: n,
+        ..
+    } = slice;
     if !filter::forms::has_room(ids, hashes, counts, offset + n as u32) {
         return Err(Refusal::Room);
     }

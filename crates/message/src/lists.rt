@@ -2,9 +2,12 @@
 ghost use Rattle.std.specs.Prelude.{◌≡◌, ◌+◌, ◌*◌, ◌%◌, ◌≤◌, length};
 ghost use Rattle.bucket.specs.Lists.{over};
 ghost use Rattle.filter.specs.Table.{hashes_of};
+ghost use Rattle.message.specs.Kinds.{type_of};
 ghost use Rattle.message.specs.Layout.{inquiry, layout};
 ghost use Rattle.message.specs.Writing.{pieces};
 ghost use Rattle.message.specs.Putting.{cut_bytes, end_to_end, framed_hashes};
+
+use crate::kinds::Kind;
 
 // The most IDs of an INQUIRY, and the bytes of the most hashes of an OFFER or DEMAND, 1,023.
 const MOST_IDS: usize = 8190;
@@ -23,9 +26,9 @@ pub(crate) fn put_inquiries(ids: &[u64], salt: u32, out: &mut [u8], at: usize)
 }
 
 // Hashes of 64 bytes end to end as OFFER or DEMAND messages.
-pub(crate) fn put_offers(bytes: &[u8], kind: u32, out: &mut [u8], at: usize)
+pub(crate) fn put_offers(bytes: &[u8], kind: Kind, out: &mut [u8], at: usize)
     requires { (length bytes.now % 64 ≡ 0) × (at + cut_bytes 1023 4 64 (length (hashes_of bytes.now)) ≤ length out.old) }
-    ensures { out.new ≡ over at (end_to_end (framed_hashes kind) (pieces 1023 (hashes_of bytes.now))) out.old }
+    ensures { out.new ≡ over at (end_to_end (framed_hashes (type_of kind)) (pieces 1023 (hashes_of bytes.now))) out.old }
 {
     let mut p = at;
     for piece in bytes.chunks(MOST_BYTES) {

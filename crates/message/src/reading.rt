@@ -81,7 +81,7 @@ fn slice_fits(kind: Kind, slice: Slice, len: usize) -> bool
         && salt < 64
         && 1 <= width
         && width <= 32
-        && u32::from(kind) == crate::slices::slice_type(size, offset)
+        && kind == crate::slices::slice_type(size, offset)
         && len == crate::slices::slice_bytes(width, count)
 }
 

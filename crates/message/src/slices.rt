@@ -1,8 +1,9 @@
 // The numbers of a slice, for reader and writer.
 ghost use Rattle.std.specs.Prelude.{◌≡◌, ◌≤◌};
+ghost use Rattle.message.specs.Kinds.{type_of};
 ghost use Rattle.message.specs.Layout.{in_slice, slice_type, slice_bytes};
 
-use crate::kinds::{IBF, IBF_LAST};
+use crate::kinds::Kind;
 
 // The most buckets of a slice (document 01, after 002: 32,768 / 13).
 pub(crate) const MOST_BUCKETS: u32 = 2520;
@@ -18,13 +19,13 @@ pub(crate) fn in_slice(size: u32, offset: u32) -> usize
 }
 
 // IBF LAST reaches the end.
-pub(crate) fn slice_type(size: u32, offset: u32) -> u32
-    ensures { result ≡ slice_type size offset }
+pub(crate) fn slice_type(size: u32, offset: u32) -> Kind
+    ensures { type_of result ≡ slice_type size offset }
 {
     if (offset as usize) + in_slice(size, offset) == size as usize {
-        IBF_LAST
+        Kind::IbfLast
     } else {
-        IBF
+        Kind::Ibf
     }
 }
 

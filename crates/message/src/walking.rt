@@ -46,15 +46,9 @@ pub fn numbers_at(s: &[u8], at: usize) -> MessageNumbers
     ensures { result ≡ walk_numbers (walk_at s.now at) at }
 {
     match crate::reader::message_at(s, at) {
-        Some(
-            Ok(
-                Found {
-                    message,
-                    start,
-                    next,
-                },
-            ),
-        ) => crate::kinds::message_numbers(Some(message), start, next),
+        Some(Ok(found)) => {
+            crate::kinds::message_numbers(Some(found.message), found.start, found.next)
+        },
         Some(Err(Broken { start })) => crate::kinds::message_numbers(None, start, start),
         None => crate::kinds::place(1, at, at),
     }

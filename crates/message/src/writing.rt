@@ -2,11 +2,12 @@
 // before and behind is unchanged.
 ghost use Rattle.std.specs.Prelude.{◌≡◌, cond, List, map, ℕ, ◌+◌, ◌≤◌, ◌^◌, leb, Ok, Err};
 ghost use Rattle.filter.specs.declared.answers.Refusal.TheVariants.{Room};
+ghost use Rattle.message.specs.Kinds.{type_of};
 ghost use Rattle.message.specs.Writing.{write, pieces, inquiry_call, hashes_call, offers_of, demands_of, element_call, done_call};
 ghost use Rattle.message.specs.Layout.{Content};
 ghost use Rattle.message.specs.Putting.{Says, cut_bytes};
 
-use crate::kinds::{DEMAND, DONE, ELEMENT, OFFER};
+use crate::kinds::Kind;
 use filter::answers::Refusal;
 
 // The longest content of an ELEMENT.
@@ -30,14 +31,14 @@ pub fn inquiry(ids: &[u64], salt: u32, out: &mut [u8], at: usize) -> Result<usiz
 pub fn offer(hashes: &[u8], out: &mut [u8], at: usize) -> Result<usize, Refusal>
     ensures { write result out.new ≡ hashes_call offers_of hashes.now at out.old }
 {
-    hashes_as(OFFER, hashes, out, at)
+    hashes_as(Kind::Offer, hashes, out, at)
 }
 
 // DEMAND messages, likewise.
 pub fn demand(hashes: &[u8], out: &mut [u8], at: usize) -> Result<usize, Refusal>
     ensures { write result out.new ≡ hashes_call demands_of hashes.now at out.old }
 {
-    hashes_as(DEMAND, hashes, out, at)
+    hashes_as(Kind::Demand, hashes, out, at)
 }
 
 // One ELEMENT. Refused: too little room, then a content that no message can hold.
@@ -50,7 +51,7 @@ pub fn element(content: &[u8], out: &mut [u8], at: usize) -> Result<usize, Refus
     if n < 1 || MOST_CONTENT < n {
         return Err(Refusal::Malformed);
     }
-    crate::frames::put_framed(ELEMENT, content, out, at);
+    crate::frames::put_framed(Kind::Element, content, out, at);
     Ok(end)
 }
 
@@ -63,13 +64,13 @@ pub fn done(check: &[u8], out: &mut [u8], at: usize) -> Result<usize, Refusal>
         return Err(Refusal::Room);
     }
     let end = room_for(at, 68, out.len())?;
-    crate::frames::put_framed(DONE, &check[..64], out, at);
+    crate::frames::put_framed(Kind::Done, &check[..64], out, at);
     Ok(end)
 }
 
 // Messages of a type for hashes, whatever they say by it.
-fn hashes_as(kind: u32, hashes: &[u8], out: &mut [u8], at: usize) -> Result<usize, Refusal>
-    ensures { (say : List ℕ → Content) → Says kind say → write result out.new ≡ hashes_call (λ hs. map say (pieces 1023 hs)) hashes.now at out.old }
+fn hashes_as(kind: Kind, hashes: &[u8], out: &mut [u8], at: usize) -> Result<usize, Refusal>
+    ensures { (say : List ℕ → Content) → Says (type_of kind) say → write result out.new ≡ hashes_call (λ hs. map say (pieces 1023 hs)) hashes.now at out.old }
 {
     if hashes.len() % 64 != 0 {
         return Err(Refusal::Form);

@@ -20,7 +20,7 @@ returns-in_default-checked_sub c = let none = c.in_default-checked_sub.ensures i
     search-end c.args.v c.requires.forest c.loop-k.invariant c.loop-k-test.true (omega arith)
 
 pub loop-k-preserved : goal.loop-k-preserved
-loop-k-preserved c = let (some, is) = c.in-Some-checked_sub.ensures in
+loop-k-preserved c = let (some, is) = rw c.from.ensures at c.in-Some-checked_sub.ensures in
     rw is (search_on c.args.v c.requires.forest c.loop-k.invariant c.loop-k-test.true some)
 
 pub returns : goal.returns

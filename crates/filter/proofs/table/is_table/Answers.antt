@@ -1,16 +1,20 @@
 -- `filter::table::is_table` meets its contract: whole hashes, few enough, with ascending IDs are a table, and nothing else is. Assumes nothing.
-use mathlib.Core.Path.{◌∙◌}
-use native.Mathlib.Omega.{arith}
+use borrow.Author.Tests.{leb-true, leb-false}
+use Rattle.std.proofs.Common.{◌∙◌, rules, sym, arith}
 use Rattle.filter.proofs.TableLaws.{hashes-length, table_torn, table_large, table_by_ids}
 use Rattle.filter.proofs.table.is_table.Goals as goal
+use Rattle.filter.proofs.table.is_table.Goals.{then-table-eq0, else-table-eq0}
 
-pub returns-then-table-ne0 : goal.returns-then-table-ne0
-returns-then-table-ne0 c = table_torn c.args.table.now c.if-table-ne0.true
+pub returns-then-count-le4096 : goal.returns-then-count-le4096
+returns-then-count-le4096 c = let t = c.args.table.now in
+    elim c.if-table-eq0.branch [
+      | then-table-eq0 w ↦ c.ids_ascend.ensures ∙ table_by_ids t w.if-table-eq0.true (omega (arith, hashes-length t, w.count.ensures, leb-true _ _ (sym w.value-is ∙ c.if-count-le4096.true)))
+      | else-table-eq0 w ↦ search rules
+    ]
 
-pub returns-then-n-gt4096 : goal.returns-then-n-gt4096
-returns-then-n-gt4096 c = let t = c.args.table.now in
-    table_large t (omega (arith, hashes-length t))
-
-pub returns : goal.returns
-returns c = let t = c.args.table.now in
-    c.ids_ascend.ensures ∙ table_by_ids t (omega arith) (omega (arith, hashes-length t))
+pub returns-else-count-le4096 : goal.returns-else-count-le4096
+returns-else-count-le4096 c = let t = c.args.table.now in
+    elim c.if-table-eq0.branch [
+      | then-table-eq0 w ↦ c.if-count-le4096.false ∙ table_large t (omega (arith, hashes-length t, w.count.ensures, leb-false _ _ (sym w.value-is ∙ c.if-count-le4096.false)))
+      | else-table-eq0 w ↦ c.if-count-le4096.false ∙ table_torn t w.if-table-eq0.false
+    ]

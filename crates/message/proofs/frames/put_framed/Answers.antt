@@ -3,6 +3,7 @@ use Rattle.std.proofs.Common.{List, [], ◌∷◌, ℕ, ◌+◌, length, ap, ref
 use Rattle.bucket.specs.Digits.{packed}
 use Rattle.bucket.specs.Lists.{over}
 use Rattle.bucket.proofs.OverLaws.{then_over, over-part}
+use Rattle.message.specs.Kinds.{type_of}
 use Rattle.message.proofs.WholeLaws.{whole_length}
 use Rattle.message.proofs.WriteLaws.{frame_put}
 use Rattle.message.proofs.frames.put_framed.Goals as goal
@@ -10,10 +11,10 @@ use Rattle.message.proofs.frames.put_framed.Goals as goal
 pub returns-clause-put : goal.returns-clause-put
 returns-clause-put c = let a = c.args in
     let body = a.bytes.now in
-    let frame = packed 16 ((4 + length body) ∷ a.kind ∷ []) in
-    let len = whole_length 2 ((4 + length body) ∷ a.kind ∷ []) in
-    let first = rw c.from.ensures at c.put_pair.ensures in
+    let frame = packed 16 ((4 + length body) ∷ type_of a.kind ∷ []) in
+    let len = whole_length 2 ((4 + length body) ∷ type_of a.kind ∷ []) in
+    let first = c.put_start.ensures in
     then_over a.at a.out.now frame body {p = a.at + 4} first
     (rw c.copy_from_slice.ensures.after (over-part (a.at + 4) (a.at + (4 + length body)) body _ (add_assoc a.at 4 (length body))))
     (omega arith) (omega arith)
-    ∙ ap (λ (q : List ℕ). over a.at q a.out.now) (frame_put a.kind (length body) body refl)
+    ∙ ap (λ (q : List ℕ). over a.at q a.out.now) (frame_put (type_of a.kind) (length body) body refl)

@@ -19,8 +19,8 @@ returns-clause-put c = let a = c.args in
     let ly = whole_length 4 (s.size ∷ s.offset ∷ []) in
     let lz = whole_length 2 (s.salt ∷ s.width ∷ []) in
     let lxy = length-append x y in
-    let first = rw (c.slice_bytes-total.ensures, c.from.ensures, c.slice_type-kind.ensures) at c.put_pair.ensures in
-    let second = rw (c.from-2.ensures, c.from-3.ensures) at c.put_pair-2.ensures in
-    let third = rw (c.from-4.ensures, c.from-5.ensures) at c.put_pair-3.ensures in
+    let first = rw (c.slice_bytes.ensures, c.slice_type.ensures) at c.put_start.ensures in
+    let second = rw (c.from.ensures, c.from-2.ensures) at c.put_pair.ensures in
+    let third = rw (c.from-3.ensures, c.from-4.ensures) at c.put_pair-2.ensures in
     then_over a.at a.out.now (x ++ y) z (then_over a.at a.out.now x y first second (omega arith) (omega arith)) third (omega arith) (omega arith)
     ∙ ap (λ (q : List ℕ). over a.at q a.out.now) (append_assoc x y z)

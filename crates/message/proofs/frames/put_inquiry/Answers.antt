@@ -20,8 +20,8 @@ returns-clause-put c = let a = c.args in
     let l2 = groups-length 8 4 a.salt in
     let l3 = whole_length 8 ids in
     let both = length-append frame salt in
-    let first = rw c.from.ensures at c.put_pair.ensures in
-    let second = rw c.from-2.ensures at c.put_number.ensures ∙ put-there (a.at + 4) 4 a.salt _ (omega arith) (omega (arith, c.put_pair.auto.out)) in
+    let first = c.put_start.ensures in
+    let second = rw c.from.ensures at c.put_number.ensures ∙ put-there (a.at + 4) 4 a.salt _ (omega arith) (omega (arith, c.put_start.auto.out)) in
     let third = rw map-id at c.put_numbers.ensures.put in
     then_over a.at a.out.now (frame ++ salt) (packed 64 ids) (then_over a.at a.out.now frame salt first second (omega arith) (omega arith)) third
     (omega arith) (omega arith)

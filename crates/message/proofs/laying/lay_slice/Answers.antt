@@ -15,7 +15,7 @@ use Rattle.message.proofs.laying.lay_slice.Goals as goal
 use Rattle.message.proofs.laying.lay_slice.Goals.{Else-not-has_room}
 
 -- where each column has room
-wide : (c : Else-not-has_room) → Wide (c.args.offset + c.args.n)
+wide : (c : Else-not-has_room) → Wide (c.args.slice.offset + c.args.slice.count)
     (columns c.args.ids.now c.args.hashes.now c.args.counts.now)
 wide c = wide_of _ _ (test_granted c.has_room.ensures (ap not c.if-not-has_room.false))
 
@@ -27,12 +27,13 @@ slice_bounds-lay_numbers-end-4 c = omega (arith, (wide (goal.at.slice_bounds-lay
 
 pub returns : goal.returns
 returns c = let a = c.args in
+    let b = a.slice in
     let room = wide (goal.at.returns c).Else-not-has_room in
-    let ids = rw (add-sub_cancel_left a.offset a.n, part_length a.offset a.ids.now a.n room.idsums, add-sub_cancel_left) at c.lay_numbers.ensures in
-    let hashes = rw (add-sub_cancel_left a.offset a.n, part_length a.offset a.hashes.now a.n room.hashsums, add-sub_cancel_left) at c.lay_numbers-2.ensures in
-    buckets_laid_lem a.offset a.width a.n a.s.now (columns a.ids.now a.hashes.now a.counts.now)
+    let ids = rw (add-sub_cancel_left b.offset b.count, part_length b.offset a.ids.now b.count room.idsums, add-sub_cancel_left) at c.lay_numbers.ensures in
+    let hashes = rw (add-sub_cancel_left b.offset b.count, part_length b.offset a.hashes.now b.count room.hashsums, add-sub_cancel_left) at c.lay_numbers-2.ensures in
+    buckets_laid_lem b.offset b.width b.count a.s.now (columns a.ids.now a.hashes.now a.counts.now)
     (test_granted c.has_room.ensures (ap not c.if-not-has_room.false))
     c.requires.2
-    (laid-part a.offset a.n _ _ a.ids.now room.idsums ids (unpacked-length 64 a.n _))
-    (laid-part a.offset a.n _ _ a.hashes.now room.hashsums hashes (unpacked-length 32 a.n _))
+    (laid-part b.offset b.count _ _ a.ids.now room.idsums ids (unpacked-length 64 b.count _))
+    (laid-part b.offset b.count _ _ a.hashes.now room.hashsums hashes (unpacked-length 32 b.count _))
     c.unpack.ensures.1

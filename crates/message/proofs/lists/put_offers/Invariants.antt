@@ -3,6 +3,7 @@ use Rattle.std.proofs.Common.{◌≡◌, ◌%◌, length}
 use Rattle.std.specs.Slice.Iter.{chunks_rest, chunks_size}
 use Rattle.bucket.specs.Digits.{Below}
 use Rattle.filter.specs.Table.{hashes_of}
+use Rattle.message.specs.Kinds.{type_of}
 use Rattle.message.specs.Putting.{framed_hashes}
 use Rattle.message.proofs.CutLaws.{Cutting}
 use Rattle.message.proofs.lists.put_offers.Given as goal
@@ -13,5 +14,5 @@ invariant-loop-piece l = let rest = chunks_rest l.piece-iterator in
       size : chunks_size l.piece-iterator ≡ 65472;
       whole : length rest % 64 ≡ 0;
       bytes : Below 8 rest;
-      cutting : Cutting 1023 4 64 (framed_hashes l.kind) l.at (hashes_of l.bytes) l.initial.out l.out l.p (hashes_of rest);
+      cutting : Cutting 1023 4 64 (framed_hashes (type_of l.kind)) l.at (hashes_of l.bytes) l.initial.out l.out l.p (hashes_of rest);
     }

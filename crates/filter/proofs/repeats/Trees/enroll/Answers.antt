@@ -34,13 +34,11 @@ unfolding Placed
 invariant_of-self c = let s = c.self.inside in
     let k = many (goal.at.invariant_of-self c).After-find in
     let r = room (goal.at.invariant_of-self c).After-find in
-    let more = take_more_set s.seen s.n c.args.v (omega (arith, r)) in (
-      omega (arith, r),
-      elim c.match-find.branch [
-        | in-Head w ↦ rw (w.self-inside-is, more) (grown_head s.n c.args.v k r c.self.invariant.1 w.in-Head.ensures.1)
-        | in-Link w ↦ rw (w.self-inside-is, more) (grown_link s.n c.args.v k r c.self.invariant.1 w.in-Link.ensures.1)
-      ],
-    )
+    let more = take_more_set s.seen s.n c.args.v (omega (arith, r)) in
+    elim c.match-find.branch [
+      | in-Head w ↦ rw (w.self-inside-is, more) (omega (arith, r), grown_head s.n c.args.v k r c.self.invariant.1 w.in-Head.ensures.1)
+      | in-Link w ↦ rw (w.self-inside-is, more) (omega (arith, r), grown_link s.n c.args.v k r c.self.invariant.1 w.in-Link.ensures.1)
+    ]
 
 pub returns-clause-fresh : goal.returns-clause-fresh
 unfolding Placed
