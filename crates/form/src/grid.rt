@@ -68,20 +68,30 @@ pub fn is_ended(state: u32) -> bool
     state == FINISHED || state == ABORTED
 }
 
-// Whether a message of a kind may come in a state. Where the number is no state's nothing may.
-pub fn admits(state: u32, kind: Kind) -> bool
-    ensures { result ≡ entry state (column kind) }
+// The column of a kind of message.
+pub fn column(kind: Kind) -> usize
+    ensures { result ≡ column kind }
+{
+    kind as usize
+}
+
+// Whether a message may come in a state, by its kind's column. Outside the grid nothing may: the contract says so of any two numbers.
+pub fn admits(state: u32, kind: usize) -> bool
+    ensures { result ≡ entry state kind }
 {
     let Ok(row) = State::try_from(state) else {
         return false;
     };
-    GRID[row as usize][kind as usize]
+    if 7 <= kind {
+        return false;
+    }
+    GRID[row as usize][kind]
 }
 
 // The same for a slice: in Passive Decoding only as first message since entry.
 #[tactic(auto, unfolding(crate::specs::Answers::admits_slice))]
-pub fn admits_slice(numbers: Numbers, kind: Kind) -> bool
-    ensures { result ≡ admits_slice numbers (column kind) }
+pub fn admits_slice(numbers: Numbers, kind: usize) -> bool
+    ensures { result ≡ admits_slice numbers kind }
 {
     admits(numbers.state, kind) && (numbers.state != PASSIVE || numbers.first == 1)
 }

@@ -13,8 +13,9 @@ ghost use Rattle.session.specs.Ready.{Opens, Sent, Reads, Lays, Whole, Ended, Fa
 ghost use Rattle.session.specs.Turns.{settled, mark_all, hashes_at, open_turn, open_turn', slice_turn, slice_turn', last_turn, last_turn', untouched, whole_read};
 
 use filter::answers::{Reading, Refusal, Unread};
+use form::grid::column;
 use ledger::numbers::{Answer, Numbers};
-use message::kinds::Slice;
+use message::kinds::{Kind, Slice};
 
 // What follows a reading after which the session goes on.
 #[derive(Clone, Copy)]
@@ -38,7 +39,7 @@ pub(crate) fn on_slice(
     ensures { slice_turn' (settled numbers result) (columns ids.new hashes.new counts.new)
         ≡ slice_turn numbers (content (Ibf slice) message.now) slice (columns ids.old hashes.old counts.old) }
 {
-    if !form::grid::admits_slice(numbers, message::kinds::Kind::Ibf) {
+    if !form::grid::admits_slice(numbers, column(Kind::Ibf)) {
         return Err(Refusal::OutOfTurn);
     }
     if !form::grid::is_placed(numbers, slice.size, slice.offset, slice.salt, slice.width) {
@@ -68,7 +69,7 @@ pub(crate) fn on_last(
     ensures { last_turn' (settled numbers result) marks.new inquired.new (untouched (columns ids.new hashes.new counts.new) ours.new theirs.new) out.new
         ≡ last_turn numbers table.now (content (IbfLast slice) message.now) slice (columns ids.old hashes.old counts.old) ours.old theirs.old marks.old inquired.old out.old }
 {
-    if !form::grid::admits_slice(numbers, message::kinds::Kind::IbfLast) {
+    if !form::grid::admits_slice(numbers, column(Kind::IbfLast)) {
         return Err(Refusal::OutOfTurn);
     }
     let Slice { size, salt, .. } = slice;

@@ -84,7 +84,7 @@ fn on_ledger(
     requires { InForm numbers table.now records.old marks.old inquired.now hash.now out.old tally × (exactly_one message.now ≡ Some m) × (is_slice m ≡ false) }
     ensures { LedgerSteps numbers table.now records.old marks.old inquired.now hash.now message.now out.old m tally (settled numbers result) records.new marks.new out.new }
 {
-    if !form::grid::admits(numbers.state, m.kind()) {
+    if !form::grid::admits(numbers.state, form::grid::column(m.kind())) {
         return Err(Refusal::OutOfTurn);
     }
     match m {

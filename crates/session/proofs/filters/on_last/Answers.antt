@@ -28,17 +28,17 @@ use Rattle.session.proofs.filters.on_last.Goals as goal
 use Rattle.session.proofs.filters.on_last.Goals.{Else-not-is_placed, After-send_filter}
 
 pub returns-then-not-admits_slice : goal.returns-then-not-admits_slice
-returns-then-not-admits_slice c = last_untimely c.requires (test_refused c.admits_slice.ensures (ap not c.if-not-admits_slice.true))
+returns-then-not-admits_slice c = last_untimely c.requires (test_refused (c.admits_slice.ensures ∙ ap (admits_slice c.args.numbers) c.column.ensures) (ap not c.if-not-admits_slice.true))
 
 pub returns-then-not-is_placed : goal.returns-then-not-is_placed
-returns-then-not-is_placed c = last_misplaced c.requires (test_granted c.admits_slice.ensures (ap not c.if-not-admits_slice.false)) (test_refused c.is_placed.ensures (ap not c.if-not-is_placed.true))
+returns-then-not-is_placed c = last_misplaced c.requires (test_granted (c.admits_slice.ensures ∙ ap (admits_slice c.args.numbers) c.column.ensures) (ap not c.if-not-admits_slice.false)) (test_refused c.is_placed.ensures (ap not c.if-not-is_placed.true))
 
 pub read_whole-requires : goal.read_whole-requires
 read_whole-requires c = last_whole c.requires (test_granted c.is_placed.ensures (ap not c.if-not-is_placed.false))
 
 -- behind both tests
 timely : (c : Else-not-is_placed) → let a = c.args in (admits_slice a.numbers 1 ≡ true) × (is_placed a.numbers a.slice.size a.slice.offset a.slice.salt a.slice.width ≡ true)
-timely c = (test_granted c.admits_slice.ensures (ap not c.if-not-admits_slice.false), test_granted c.is_placed.ensures (ap not c.if-not-is_placed.false))
+timely c = (test_granted (c.admits_slice.ensures ∙ ap (admits_slice c.args.numbers) c.column.ensures) (ap not c.if-not-admits_slice.false), test_granted c.is_placed.ensures (ap not c.if-not-is_placed.false))
 
 pub returns-in_err-fate : goal.returns-in_err-fate
 returns-in_err-fate c = let a = c.args in

@@ -27,12 +27,12 @@ given_at c ours theirs cols = let a = c.args in
 
 -- behind the screen the grid admits the message
 admitted : (c : Else-not-admits) → let a = c.args in entry a.numbers.state (column_of a.m) ≡ true
-admitted c = test_granted (c.admits.ensures ∙ ap (λ (k : Kind). entry c.args.numbers.state (column k)) c.kind.ensures) (ap not c.if-not-admits.false)
+admitted c = test_granted (c.admits.ensures ∙ ap (entry c.args.numbers.state) (c.column.ensures ∙ ap column c.kind.ensures)) (ap not c.if-not-admits.false)
 
 pub returns-then-not-admits : goal.returns-then-not-admits
 unfolding given_at
 returns-then-not-admits c = λ ours theirs cols s tally. let G = given_at (goal.at.returns-then-not-admits c).Start ours theirs cols in
-    screened_tie G s c.args.m c.requires.2 (test_refused (c.admits.ensures ∙ ap (λ (k : Kind). entry c.args.numbers.state (column k)) c.kind.ensures) (ap not c.if-not-admits.true))
+    screened_tie G s c.args.m c.requires.2 (test_refused (c.admits.ensures ∙ ap (entry c.args.numbers.state) (c.column.ensures ∙ ap column c.kind.ensures)) (ap not c.if-not-admits.true))
 
 pub on_inquiry-requires : goal.on_inquiry-requires
 on_inquiry-requires c = let a = c.args in
