@@ -8,7 +8,6 @@ use Rattle.std.proofs.Common.{Some}
 use Rattle.bucket.specs.Columns.{Columns}
 use Rattle.filter.specs.Table.{first_eight}
 use Rattle.bucket.proofs.TestLaws.{test_refused, test_granted}
-use Rattle.message.specs.declared.kinds.Kind.{Kind}
 use Rattle.message.specs.declared.kinds.Message.{Message}
 use Rattle.form.specs.Grid.{column}
 use Rattle.ledger.specs.Grid.{entry}
