@@ -6,6 +6,9 @@ ghost use Rattle.filter.specs.Table.{hashes_of, first_eight, ids_of, is_table, p
 
 use crate::searching::bisect;
 
+// The most hashes of a table (document 01).
+const MOST_HASHES: usize = 4096;
+
 // Bytes that are a table, for functions that take nothing else.
 #[derive(Clone, Copy)]
 pub(crate) struct Table<'a> {
@@ -56,7 +59,7 @@ pub fn element_id(table: &[u8], i: usize) -> u64
 pub fn is_table(table: &[u8]) -> bool
     ensures { result ≡ is_table first_eight table.now }
 {
-    table.len() % 64 == 0 && count(table) <= 4096 && ids_ascend(table)
+    table.len() % 64 == 0 && count(table) <= MOST_HASHES && ids_ascend(table)
 }
 
 // Where a binary search for an ID ends: in a table, the first hash whose ID is not below it.
