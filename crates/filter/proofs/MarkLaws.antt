@@ -8,7 +8,7 @@ use Prim.Native.Nat.{ℕ, ◌+◌, ◌*◌, ◌/◌, ◌%◌, ◌^◌, ◌≤◌
 use native.Mathlib.Omega.{arith}
 use lib.Dec.{eqb, ltb}
 use lib.ListN.{get_or, set, replicate, length, length-set, get_or-replicate}
-use lib.Seq.{get_or-set_same, get_or-set_other}
+use lib.Seq.{get_or-set_same, get_or-set_other, set_out}
 use mir.Syntax.{w64}
 use borrow.Author.Tests.{lt-ltb, eq-eqb, ne_eqb, eqb-true, eqb-false, ltb-true, ltb-false}
 use Rattle.std.specs.Int.{bit_at, bit_not, trailing_zeros}
@@ -77,6 +77,17 @@ marks-but g b on l = marks-from (but g b on) (set (marks g) b on) (length-set (m
     go : (i : ℕ) → i < 4096 → (t : Bool) → eqb i b ≡ t → get_or (set (marks g) b on) i false ≡ cond (eqb i b) on (g i)
     go i k true e = rw (e, eqb-true i b e) (get_or-set_same (marks g) b on false (omega (arith, marks-length g)))
     go i k false e = rw e (get_or-set_other (marks g) b i on false (eqb-false i b e) ∙ marks-at g i k)
+
+-- the same of any number: one behind them all puts nothing
+pub marks-any : (g : ℕ → Bool) (b : ℕ) (on : Bool) → set (marks g) b on ≡ marks (but g b on)
+marks-any g b on = go (ltb b 4096) refl
+  where
+    go : (t : Bool) → ltb b 4096 ≡ t → set (marks g) b on ≡ marks (but g b on)
+    go true h = marks-but g b on (ltb-true b 4096 h)
+    go false h =
+        let past = ltb-false b 4096 h in
+        set_out (marks g) b on (omega (arith, marks-length g, past))
+        ∙ marks-same g (but g b on) (λ i l. ap (λ (t : Bool). cond t on (g i)) (sym (ne_eqb i b (omega (arith, past, l)))))
 
 -- ---- the first that is on
 

@@ -23,7 +23,7 @@ use Rattle.filter.specs.Filter.{Rule, rule}
 use Rattle.filter.specs.Peeling.{is_pure}
 use Rattle.filter.specs.Marks.{but, marks}
 use Rattle.filter.specs.Steps.{shows}
-use Rattle.filter.proofs.MarkLaws.{marks-same, marks-but}
+use Rattle.filter.proofs.MarkLaws.{marks-same, marks-but, marks-any}
 
 -- ---- the test
 
@@ -99,10 +99,10 @@ module _ (R : Rule) (f : ℕ → Bucket) where
 
 -- ---- one bucket replaced
 
-pub shows-place : (R : Rule) (p : ℕ) (c : Columns) (b : Bucket) (on : Bool) → p < R.size → p < 4096
+pub shows-place : (R : Rule) (p : ℕ) (c : Columns) (b : Bucket) (on : Bool) → p < R.size
     → on ≡ is_pure R p (view (place c p b) p)
     → set (marks (shows R (view c))) p on ≡ marks (shows R (view (place c p b)))
-shows-place R p c b on l h e = marks-but (shows R (view c)) p on h ∙ marks-same (but (shows R (view c)) p on) (shows R (view (place c p b))) (λ i k. same i)
+shows-place R p c b on l e = marks-any (shows R (view c)) p on ∙ marks-same (but (shows R (view c)) p on) (shows R (view (place c p b))) (λ i k. same i)
   where
     same : (i : ℕ) → but (shows R (view c)) p on i ≡ shows R (view (place c p b)) i
     same i = go (eqb i p) refl

@@ -1,10 +1,18 @@
-// A binary search by a question asked of positions.
+// A binary search by a question asked of positions, and of IDs.
 ghost use Rattle.std.specs.Prelude.{◌≡◌, Bool, ℕ, ◌<◌};
 ghost use Rattle.filter.specs.Lists.{bisect};
+ghost use Rattle.filter.specs.Table.{position};
+
+// Where a binary search for an ID ends: in ascending IDs, the first that is not below it. `table::id_position` asks the same of a table's bytes.
+pub fn place_of_id(ids: &[u64], id: u64) -> usize
+    ensures { result ≡ position ids.now id }
+{
+    bisect(ids.len(), |i| ids[i] < id)
+}
 
 // Where a binary search among n positions ends: the first that is not below, if those below come before all others.
 // The library's `partition_point` says where it ends on such positions only; our contracts say where a search ends on any bytes.
-pub fn bisect<F: Fn(usize) -> bool>(n: usize, below: F) -> usize
+pub(crate) fn bisect<F: Fn(usize) -> bool>(n: usize, below: F) -> usize
     requires { (i : ℕ) → i < n → F.pre below i }
     ensures { (p : ℕ → Bool) → ((i : ℕ) (t : Bool) → i < n → F.post below i t → t ≡ p i) → result ≡ bisect p n 0 n }
 {

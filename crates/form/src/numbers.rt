@@ -8,18 +8,32 @@ use filter::answers::Refusal;
 use ledger::numbers::{ABORTED, ACTIVE, Answer, EXPECTING_LAST, Numbers};
 
 // A refusal that ends the session: nothing is sent.
-pub fn aborted(why: Refusal, numbers: Numbers) -> Answer
+pub fn abort(why: Refusal, numbers: Numbers) -> Answer
     ensures { result ≡ aborted (refusal_number why) numbers }
 {
-    refused(why, in_state(numbers, ABORTED))
+    aborted(u32::from(why), numbers)
+}
+
+// The same by its number.
+pub fn aborted(refusal: u32, numbers: Numbers) -> Answer
+    ensures { result ≡ aborted refusal numbers }
+{
+    refused(refusal, in_state(numbers, ABORTED))
 }
 
 // A refusal that changes nothing.
-pub fn refused(why: Refusal, numbers: Numbers) -> Answer
+pub fn refuse(why: Refusal, numbers: Numbers) -> Answer
     ensures { result ≡ answered (refusal_number why) 0 0 numbers }
 {
+    refused(u32::from(why), numbers)
+}
+
+// The same by its number.
+pub fn refused(refusal: u32, numbers: Numbers) -> Answer
+    ensures { result ≡ answered refusal 0 0 numbers }
+{
     Answer {
-        refusal: u32::from(why),
+        refusal,
         sent: 0,
         due: 0,
         next: numbers,

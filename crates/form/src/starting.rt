@@ -44,7 +44,7 @@ pub fn start_sender(table: &[u8], size: u32, salt: u32, marks: &mut [u8], out: &
 fn no_session(why: Refusal) -> Answer
     ensures { result ≡ answered (refusal_number why) 0 0 no_session }
 {
-    crate::numbers::refused(why, fresh(ABORTED, 0, 0, 0))
+    crate::numbers::refuse(why, fresh(ABORTED, 0, 0, 0))
 }
 
 // The numbers of a session in which nothing has happened.

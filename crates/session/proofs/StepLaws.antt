@@ -28,7 +28,7 @@ abbrev in_order : Given → List (Refusal × Bool)
 in_order G = (Form, good_form first_eight G) ∷ (Room, has_rooms G) ∷ (OutOfTurn, not (is_ended G.numbers.state)) ∷ []
 
 -- a refusal's number is none's
-refused_so : (why : Refusal) → eqb (refusal_number why) 0 ≡ false
+pub refused_so : (why : Refusal) → eqb (refusal_number why) 0 ≡ false
 refused_so Form = refl
 refused_so Room = refl
 refused_so Range = refl
@@ -56,10 +56,10 @@ module _ (G : Given) where
       ap (λ (b : Bool). number_of (first_of ((Form, b) ∷ (Room, has_rooms G) ∷ (OutOfTurn, not (is_ended G.numbers.state)) ∷ []))) (judged-form G)
 
   -- nothing is changed
-  pub early-refused : (why : Refusal) → refusal_number why ≡ early_in
-      → left (answered (refusal_number why) 0 0 G.numbers) G.records G.marks G.inquired G.columns G.ours G.theirs G.out ≡ step_call first_eight G
+  pub early-refused : {n : ℕ} → n ≡ early_in → eqb n 0 ≡ false
+      → left (answered n 0 0 G.numbers) G.records G.marks G.inquired G.columns G.ours G.theirs G.out ≡ step_call first_eight G
   unfolding step_call
-  early-refused why e = rw (sym (e ∙ early_tie), refused_so why)
+  early-refused e off = rw (sym (e ∙ early_tie), off)
 
   module _ (none : early_in ≡ 0) where
     behind : Passed (in_order G)

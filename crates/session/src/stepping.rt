@@ -48,11 +48,11 @@ pub fn step(
         out.len(),
     );
     let tally = match form::rooms::admit(judged, roomy, numbers.state) {
-        Err(why) => return form::numbers::refused(why, numbers),
+        Err(why) => return form::numbers::refuse(why, numbers),
         Ok(tally) => tally,
     };
     let Some(m) = message::reading::read(message) else {
-        return form::numbers::aborted(Refusal::Malformed, numbers);
+        return form::numbers::abort(Refusal::Malformed, numbers);
     };
     let taken = match m {
         Message::Ibf(slice) => {
@@ -65,7 +65,7 @@ pub fn step(
             numbers, table, records, marks, inquired, hash, message, out, m, tally,
         ),
     };
-    taken.unwrap_or_else(|why| form::numbers::aborted(why, numbers))
+    taken.unwrap_or_else(|why| form::numbers::abort(why, numbers))
 }
 
 // The messages that no columns are needed for.

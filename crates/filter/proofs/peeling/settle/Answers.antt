@@ -42,5 +42,5 @@ returns-clause-shown c = let a = c.args in
     let was : Columns = columns a.ids.now a.hashes.now a.counts.now in
     let done = gone (goal.at.returns-clause-shown c).After-put_at in
     rw (c.mark.ensures, c.requires.shown, done)
-    (shows-place (rule a.k a.size 0) a.b was (view was a.b ⊕ neg (bucket a.x a.h a.s)) c.looks_pure.result c.requires.inside (omega (arith, c.requires.inside, c.requires.sound.most))
+    (shows-place (rule a.k a.size 0) a.b was (view was a.b ⊕ neg (bucket a.x a.h a.s)) c.looks_pure.result c.requires.inside
     (c.looks_pure.ensures ∙ ap (λ (q : Columns). is_pure (rule a.k a.size 0) a.b (view q a.b)) done))

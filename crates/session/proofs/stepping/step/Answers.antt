@@ -18,7 +18,7 @@ use Rattle.std.specs.Option.{is_some}
 use Rattle.std.proofs.Common.{Some}
 use Rattle.form.specs.Answers.{early_of}
 use Rattle.form.proofs.TallyLaws.{tally_given}
-use Rattle.session.proofs.StepLaws.{early_in, early-refused, said, sound, tally_sound}
+use Rattle.session.proofs.StepLaws.{early_in, refused_so, early-refused, said, sound, tally_sound}
 use Rattle.session.specs.Turns.{settled}
 use Rattle.session.proofs.InFormLaws.{in_form}
 use Rattle.session.proofs.LastGranted.{slice-lays, last_ready}
@@ -61,14 +61,14 @@ other Done h k = refl
 
 pub returns-in-Err : goal.returns-in-Err
 returns-in-Err c = let G = given_first (goal.at.returns-in-Err c).After-admit in
-    ap (λ (a : Answer). left a G.records G.marks G.inquired G.columns G.ours G.theirs G.out) c.refused.ensures
-    ∙ early-refused G c.in-Err.why (c.in-Err.ensures.refused ∙ first_is (goal.at.returns-in-Err c).After-admit)
+    ap (λ (a : Answer). left a G.records G.marks G.inquired G.columns G.ours G.theirs G.out) c.refuse.ensures
+    ∙ early-refused G (c.in-Err.ensures.refused ∙ first_is (goal.at.returns-in-Err c).After-admit) (refused_so c.in-Err.why)
 
 pub returns-in_default : goal.returns-in_default
 unfolding step_said
 returns-in_default c = let o = (goal.at.returns-in_default c).In-Ok in
     let G = given1 o in
-    ap (λ (a : Answer). left a G.records G.marks G.inquired G.columns G.ours G.theirs G.out) c.aborted.ensures
+    ap (λ (a : Answer). left a G.records G.marks G.inquired G.columns G.ours G.theirs G.out) c.abort.ensures
     ∙ ap (λ (m : Option Message). step_said first_eight m G) (sym c.in_default.is ∙ c.read.ensures)
     ∙ said_at o
 
