@@ -23,7 +23,7 @@ table-few t good = omega (arith, hashes-length t, table-count t good)
 pub known-count : (n : ℕ) (records : List ℕ) → 64 * n ≤ length records → length (hashes_of (take (64 * n) records)) ≡ n
 known-count n records h = omega (arith, hashes-length (take (64 * n) records), length-take-le (64 * n) records h)
 
-common-few : (l m : List ℕ) → common l m ≤ length l
+pub common-few : (l m : List ℕ) → common l m ≤ length l
 common-few l m = omega (arith, common-rest l m)
 
 pub counts-few : (table known M F I : List ℕ) → is_table first_eight table ≡ true → is_table first_eight known ≡ true → length I ≤ 4096

@@ -9,6 +9,7 @@ use lib.Dec.{eqb}
 use lib.ListN.{length, take, length-map}
 use borrow.Author.Tests.{eqb-true, eq-eqb, ne_eqb}
 use Rattle.std.proofs.Common.{Option, Some, None}
+use Rattle.std.specs.Option.{unwrap_or}
 use Rattle.bucket.specs.Lists.{elem, part}
 use Rattle.bucket.proofs.TestLaws.{cond-made}
 use Rattle.filter.specs.Table.{first_eight, hashes_of, ids_of as ids_in}
@@ -65,6 +66,10 @@ tally_given G = tally_there G.numbers G.table G.records G.marks G.inquired
 abbrev tallied : ℕ → ℕ → ℕ → Tally
 tallied concerned came unmet = record { concerned = concerned; came = came; unmet = unmet }
 
+-- what is told of a step: where there is no tally, nothing is counted
+abbrev pub tally_told : Given → Tally
+tally_told G = unwrap_or (tally_given G) (tallied 0 0 0)
+
 -- what is told of a good form, by the hashes
 module _ (table known M I : List ℕ) where
   abbrev ts : List ℕ
@@ -105,12 +110,12 @@ module _ (G : Given) (s : Sound G) where
   inquired-all = ap length (given-inquired G s) ∙ inquired-long G (given_ledgered G s)
 
   -- in the terms of the ledger
-  tally_is : tally_given G
+  tally_made : tally_given G
       ≡ Some (tallied (count (concerned first_eight (table_of G) (ledger_of G)))
       (common (ledger_of G).inquired (ids_of first_eight (table_of G)) + length (ledger_of G).gained)
       (length (unmet (ledger_of G))))
   unfolding tally_there is_whole session_of decode memory_of
-  tally_is =
+  tally_made =
       told G.table (take (64 * (there G).numbers.demanded) G.records) G.marks (take (there G).numbers.inquired G.inquired) (there G).numbers (is_whole G)
       (form_tie G (given-front G s) ∙ given_back G s)
       ∙ ap said (given-all G s)
@@ -127,6 +132,10 @@ module _ (G : Given) (s : Sound G) where
       left : length (hashes_of (take (64 * G.numbers.demanded) G.records)) - met_count (part 4096 (length (hashes_of (take (64 * G.numbers.demanded) G.records))) G.marks)
           ≡ length (unmet (ledger_of G))
       left = omega (arith, met-gained, unmet-count first_eight (table_of G) (ledger_of G) (given-books G s))
+
+  -- a step in form has a tally
+  pub tally_is : tally_given G ≡ Some (tally_told G)
+  tally_is = tally_made ∙ ap Some (ap (λ (o : Option Tally). unwrap_or o (tallied 0 0 0)) (sym tally_made))
 
   -- after an element
   module _ (h : ℕ) (u : h ∈ unmet (ledger_of G)) where
@@ -145,15 +154,15 @@ module _ (G : Given) (s : Sound G) where
           unmet-count first_eight (table_of G) (gaining h (ledger_of G)) more,
         )
 
-  -- of the tally that a step has
+  -- of a tally that a step has
   module _ (T : Tally) (has : Some T ≡ tally_given G) where
     is : T ≡ tallied (count (concerned first_eight (table_of G) (ledger_of G)))
         (common (ledger_of G).inquired (ids_of first_eight (table_of G)) + length (ledger_of G).gained)
         (length (unmet (ledger_of G)))
-    is = let e = has ∙ tally_is in cc
+    is = let e = has ∙ tally_made in cc
 
-    pub tally_concerned : T.concerned ≡ count (concerned first_eight (table_of G) (ledger_of G))
-    tally_concerned = ap (λ (T : Tally). T.concerned) is
+    pub concerned_of : T.concerned ≡ count (concerned first_eight (table_of G) (ledger_of G))
+    concerned_of = ap (λ (T : Tally). T.concerned) is
 
     unmet_is : T.unmet ≡ length (unmet (ledger_of G))
     unmet_is = ap (λ (T : Tally). T.unmet) is
@@ -161,18 +170,18 @@ module _ (G : Given) (s : Sound G) where
     came_is : T.came ≡ common (ledger_of G).inquired (ids_of first_eight (table_of G)) + length (ledger_of G).gained
     came_is = ap (λ (T : Tally). T.came) is
 
-    pub tally_unmet : eqb T.unmet 0 ≡ is_nil (unmet (ledger_of G))
-    tally_unmet = ap (λ (n : ℕ). eqb n 0) unmet_is ∙ none-nil (unmet (ledger_of G))
+    pub unmet_of : eqb T.unmet 0 ≡ is_nil (unmet (ledger_of G))
+    unmet_of = ap (λ (n : ℕ). eqb n 0) unmet_is ∙ none-nil (unmet (ledger_of G))
 
-    pub tally_last : (h : ℕ) → h ∈ unmet (ledger_of G) → eqb T.unmet 1 ≡ is_nil (unmet (gaining h (ledger_of G)))
-    tally_last h u =
+    pub last_of : (h : ℕ) → h ∈ unmet (ledger_of G) → eqb T.unmet 1 ≡ is_nil (unmet (gaining h (ledger_of G)))
+    last_of h u =
         ap (λ (n : ℕ). eqb n 1) (unmet_is ∙ fewer h u)
         ∙ one_less (length (unmet (gaining h (ledger_of G))))
         ∙ none-nil (unmet (gaining h (ledger_of G)))
 
-    pub tally_came : (h : ℕ) → h ∈ unmet (ledger_of G) → G.numbers.state ≡ 2
+    pub came_of : (h : ℕ) → h ∈ unmet (ledger_of G) → G.numbers.state ≡ 2
         → eqb (T.came + 1) G.numbers.inquired ≡ all_came first_eight (table_of G) (gaining h (ledger_of G))
-    tally_came h u active =
+    came_of h u active =
         ap₂ eqb sum (sym inquired-all) ∙ sym (came-all first_eight (table_of G) (gaining h (ledger_of G)) (more h u) ((given-form G s).demands_inquired there))
       where
         there : eqb (session_of first_eight G).state 2 ≡ true
@@ -181,9 +190,9 @@ module _ (G : Given) (s : Sound G) where
         sum : T.came + 1 ≡ common (ledger_of G).inquired (ids_of first_eight (table_of G)) + length (insert h (ledger_of G).gained)
         sum = omega (arith, came_is, longer h u)
 
-    pub tally_few : (T.concerned ≤ 4096) × (T.came ≤ 8192)
-    tally_few = (
-      omega (arith, tally_concerned, (given-books G s).few),
+    pub few_of : (T.concerned ≤ 4096) × (T.came ≤ 8192)
+    few_of = (
+      omega (arith, concerned_of, (given-books G s).few),
       omega (
         arith,
         came_is,
@@ -195,3 +204,20 @@ module _ (G : Given) (s : Sound G) where
         given-count G s,
       ),
     )
+
+  -- of the tally that is told
+  pub tally_concerned : (tally_told G).concerned ≡ count (concerned first_eight (table_of G) (ledger_of G))
+  tally_concerned = concerned_of (tally_told G) (sym tally_is)
+
+  pub tally_unmet : eqb (tally_told G).unmet 0 ≡ is_nil (unmet (ledger_of G))
+  tally_unmet = unmet_of (tally_told G) (sym tally_is)
+
+  pub tally_last : (h : ℕ) → h ∈ unmet (ledger_of G) → eqb (tally_told G).unmet 1 ≡ is_nil (unmet (gaining h (ledger_of G)))
+  tally_last = last_of (tally_told G) (sym tally_is)
+
+  pub tally_came : (h : ℕ) → h ∈ unmet (ledger_of G) → G.numbers.state ≡ 2
+      → eqb ((tally_told G).came + 1) G.numbers.inquired ≡ all_came first_eight (table_of G) (gaining h (ledger_of G))
+  tally_came = came_of (tally_told G) (sym tally_is)
+
+  pub tally_few : ((tally_told G).concerned ≤ 4096) × ((tally_told G).came ≤ 8192)
+  tally_few = few_of (tally_told G) (sym tally_is)

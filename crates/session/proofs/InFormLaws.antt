@@ -15,7 +15,7 @@ use Rattle.session.specs.Judged.{InForm}
 use Rattle.session.specs.Ready.{Kept}
 use Rattle.ledger.proofs.Sound.{Sound}
 use Rattle.ledger.proofs.GivenLaws.{given-table, given-known, given-few, given-rooms}
-use Rattle.form.proofs.TallyLaws.{tally_given, tally_few}
+use Rattle.form.proofs.TallyLaws.{tally_given, few_of}
 use Rattle.session.proofs.SaidLaws.{inquiry-room, offer-room, offer-few, demand-room, demand-few, done-room}
 
 pub in_form : (G : Given) → Sound G → (T : Tally) → Some T ≡ tally_given G → InForm G.numbers G.table G.records G.marks G.inquired G.hash G.out T
@@ -30,8 +30,8 @@ in_form G s T has =
       inquired-room = room.2;
       hash-room = room.4;
       out-room = room.3;
-      concerned-few = (tally_few G s T has).0;
-      came-few = (tally_few G s T has).1;
+      concerned-few = (few_of G s T has).0;
+      came-few = (few_of G s T has).1;
     }
 
 module _ (N : Numbers) (table R M I hash bs out : List ℕ) (m : Message) (T : Tally) (f : InForm N table R M I hash out T) (read : exactly_one bs ≡ Some m) where

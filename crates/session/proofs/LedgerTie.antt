@@ -17,7 +17,7 @@ use Rattle.ledger.specs.Grid.{entry}
 use Rattle.ledger.specs.Calls.{Given, table_of, hash_given, step_on, step_said}
 use Rattle.ledger.proofs.Sound.{Sound}
 use Rattle.form.specs.declared.tallying.Tally.{Tally}
-use Rattle.form.proofs.TallyLaws.{tally_given, tally_concerned, tally_unmet, tally_last, tally_came}
+use Rattle.form.proofs.TallyLaws.{tally_given, concerned_of, unmet_of, last_of, came_of}
 use Rattle.session.specs.Moves.{stored}
 use Rattle.session.specs.Steps.{DoneSteps, ElementSteps}
 use Rattle.session.specs.Turns.{MarkTurn, mark_turn, inquiry_turn, demand_turn, OfferTurn, offer_turn, offer_turn'}
@@ -55,7 +55,7 @@ module _ (G : Given) (s : Sound G) {r : Answer} {out' : List ℕ} where
   offer-steps T counted n e timely is =
       ap (λ (x : OfferTurn). leaves G x.answer x.stored.records x.stored.marks x.out) is
       ∙ offer_tie G s timely (unpacked 512 n (part 4 (64 * n) G.message)) (items_short n (part 4 (64 * n) G.message)) T.concerned
-      (tally_concerned G s T counted)
+      (concerned_of G s T counted)
       ∙ ap (λ (c : Content). step_on first_eight c G) (offer-said G.message n e)
 
   -- the tally counts what these functions ask for
@@ -65,12 +65,12 @@ module _ (G : Given) (s : Sound G) {r : Answer} {out' : List ℕ} where
   unfolding step_said content
   element-steps T is n timely steps =
       steps G.inquired G.message G.ours G.theirs (drop 4 G.message) G.columns s timely
-      (tally_last G s T is (hash_given G)) (tally_came G s T is (hash_given G))
+      (last_of G s T is (hash_given G)) (came_of G s T is (hash_given G))
 
   pub done-steps : {R' : List ℕ} (T : Tally) → Some T ≡ tally_given G → exactly_one G.message ≡ Some Done → entry G.numbers.state 6 ≡ true
       → DoneSteps G.numbers G.table G.records G.marks G.message G.out T.unmet r R' out'
       → leaves G r R' G.marks out' ≡ step_said first_eight (Some Done) G
   unfolding step_said
   done-steps T is e timely steps =
-      steps G.inquired G.hash G.ours G.theirs G.columns s timely (tally_unmet G s T is)
+      steps G.inquired G.hash G.ours G.theirs G.columns s timely (unmet_of G s T is)
       ∙ ap (λ (c : Content). step_on first_eight c G) (done-said G.message e)
