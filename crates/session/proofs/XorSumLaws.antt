@@ -2,7 +2,7 @@
 use mathlib.Core.Path.{◌≡◌, refl, sym, ap, ap₂, subst, ◌∙◌}
 use mathlib.Core.Logic.{◌⊎◌, inl, inr}
 use mathlib.Core.Bool.{Bool, true, false, cond}
-use mathlib.Core.List.{List, [], ◌∷◌, foldr}
+use mathlib.Core.List.{List, [], ◌∷◌, foldr, ◌++◌}
 use Prim.Native.Nat.{ℕ, zero, suc, ◌+◌, ◌-◌, ◌*◌, ◌%◌, ◌^◌, ◌≤◌, ◌<◌, suc-le-suc, ◌/◌}
 use native.Mathlib.Omega.{arith}
 use native.Mathlib.Nat.{zero-mul}
@@ -88,6 +88,12 @@ mixing_end acc₀ h acc k m past long bytes x t = record {
     below : (i : ℕ) (b : Bool) → ltb i (length acc) ≡ b → get_or acc i 0 < 256
     below i true e = rw (each i (ltb-true i (length acc) e)) (xor_lt 8 (get_or acc₀ i 0) (get_or h i 0) (t.fit i) (bytes i))
     below i false e = rw (get_or-eq_default acc 0 {n = i} (ltb-false i (length acc) e)) (omega arith)
+
+-- ---- sums of lists
+
+pub xor_append : (l m : List ℕ) → foldr bit_xor 0 (l ++ m) ≡ bit_xor (foldr bit_xor 0 l) (foldr bit_xor 0 m)
+xor_append [] m = refl
+xor_append (a ∷ l) m = ap (bit_xor a) (xor_append l m) ∙ sym (xor_assoc a (foldr bit_xor 0 l) (foldr bit_xor 0 m))
 
 -- ---- added to 64 bytes
 
