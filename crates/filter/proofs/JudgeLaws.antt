@@ -1,19 +1,26 @@
--- The verdict's tests as the code makes them: columns that are zero one by one, listed IDs that the table holds or not; and the table's test over
+-- The verdict's tests as the code makes them: buckets that are zero one by one, listed IDs that the table holds or not; and the table's test over
 -- the two lists as it stands in the definition, over the items. Assumes nothing.
-use mathlib.Core.Path.{◌≡◌, refl, ap, ap₂, ◌∙◌}
+use mathlib.Core.Path.{◌≡◌, refl, sym, subst, ap, ap₂, ◌∙◌}
 use mathlib.Core.Bool.{Bool, true, false, not, ◌&&◌, ◌||◌, true≢false, false≢true}
 use mathlib.Core.List.{List, [], ◌∷◌, ◌++◌, reverse, reverse-cons}
-use Prim.Native.Nat.{ℕ, zero, suc}
+use Prim.Native.Nat.{ℕ, zero, suc, ◌+◌, ◌-◌}
 use native.Mathlib.Numerals.{add-one}
 use native.Mathlib.Omega.{arith}
 use lib.Dec.{eqb}
 use lib.IntN.{ℤ, pos, negsuc}
-use lib.ListN.{get_or, take}
+use lib.ListN.{get_or, length, take}
 use Rattle.std.proofs.lemmas.Bool.Decides.{nat_tests}
+use Rattle.std.specs.declared.iter.Rev.{Rev}
+use Rattle.std.specs.declared.ops.Range.{Range}
+use Rattle.std.specs.Prelude.{Option}
+use Rattle.std.specs.Iterator.Adapters.{rev_source, rev_steps}
 use Rattle.std.specs.List.{fold, list_all, list_any}
 use Rattle.std.specs.Ordering.{int_eq}
+use Rattle.std.specs.Range.{range_steps_back}
+use Rattle.std.proofs.lemmas.Iterator.{YieldsList}
+use Rattle.std.proofs.lemmas.Iterator.Splits.{YieldsList-from_shown_while}
 use Rattle.std.proofs.lemmas.List.Folds.{list_all_more}
-use Rattle.bucket.specs.Bucket.{is_zero, is_zero_ℤ}
+use Rattle.bucket.specs.Bucket.{Bucket, is_zero, is_zero_ℤ}
 use Rattle.bucket.specs.Columns.{columns, view}
 use Rattle.bucket.specs.Lists.{elem}
 use Rattle.filter.specs.Filter.{Item, ours, theirs, ours_of, theirs_of}
@@ -50,6 +57,29 @@ zero-columns (suc n) is hs cs w =
     (eqb (get_or is n 0) 0) (eqb (get_or hs n 0) 0) (int_eq (get_or cs n (pos 0)) (pos 0))
     ∙ ap₂ (λ (u v : Bool). (eqb (get_or is n 0) 0 && (eqb (get_or hs n 0) 0 && u)) && v) (zero-count (get_or cs n (pos 0)))
     (zero-columns n is hs cs (wide-less n (suc n) (columns is hs cs) (omega arith) w)))
+
+-- `(0..n).rev()` gives the numbers below n, the last one first, which is the order in which the definition asks the buckets
+abbrev pub down : ℕ → List ℕ
+down zero = []
+down (suc n) = n ∷ down n
+
+abbrev pub steps_back : Rev (Range ℕ) → Option ℕ → Rev (Range ℕ) → Type 0
+steps_back = rev_steps (range_steps_back (λ a b. b - a) (λ a b. b ≡ a + 1))
+
+pub yields_down : {s : Rev (Range ℕ)} (n : ℕ) → rev_source s ≡ record { start = 0; end = n } → YieldsList steps_back (λ i. i) s (down n)
+yields_down {s} n e =
+    subst (λ k. YieldsList steps_back (λ i. i) s (down k)) (ap (λ (r : Range ℕ). r.end) e)
+    (YieldsList-from_shown_while steps_back (λ i. i) (λ u. down (rev_source u).end) (λ u. (rev_source u).start ≡ 0)
+    (λ u t p q. let e : (rev_source u).end ≡ 0 = omega (arith, p, q.1.0) in ap (λ k. length (down k)) e)
+    (λ u x t p q.
+    let e : (rev_source u).end ≡ suc (rev_source t).end = omega (arith, q.1.2) in
+    (q.0 ∙ p, ap down e ∙ ap (λ k. k ∷ down (rev_source t).end) (sym q.1.1)))
+    s (ap (λ (r : Range ℕ). r.start) e))
+
+pub zero-down : (f : ℕ → Bucket) (n : ℕ) → list_all (λ i. is_zero (f i)) (down n) ≡ all_zero f n
+unfolding all_zero
+zero-down f zero = refl
+zero-down f (suc n) = ap (λ (t : Bool). is_zero (f n) && t) (zero-down f n)
 
 -- each ID of a list is there, or none is
 pub every-held : (t l : List ℕ) → list_all (λ a. elem a t) l ≡ every true t l

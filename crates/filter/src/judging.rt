@@ -32,19 +32,14 @@ pub(crate) fn judge(
     Verdict::Complete
 }
 
-// Whether the first n buckets are zero. No number ends the test, so that the compiler can test several at once.
+// Whether the first n buckets are zero. They are asked from the last one down, and the first that is not zero ends it.
 pub(crate) fn all_zero(ids: &[u64], hashes: &[u32], counts: &[i64], n: usize) -> bool
     requires { Wide n (columns ids.now hashes.now counts.now) }
     ensures { result ≡ all_zero (view (columns ids.now hashes.now counts.now)) n }
 {
-    let no_id = ids[..n].iter().fold(true, |zero, id| zero & (*id == 0));
-    let no_hash = hashes[..n]
-        .iter()
-        .fold(true, |zero, hash| zero & (*hash == 0));
-    let no_count = counts[..n]
-        .iter()
-        .fold(true, |zero, count| zero & (*count == 0));
-    no_id & no_hash & no_count
+    (0..n)
+        .rev()
+        .all(|i| bucket::columns::is_zero(ids[i], hashes[i], counts[i]))
 }
 
 // Whether the table has all IDs of one list and none of the other. Hints are worth making for many IDs only.

@@ -1,31 +1,15 @@
--- `judging::all_zero` meets its contract: columns that are zero one by one are zero buckets. Assumes nothing.
-use mathlib.Core.Path.{ap₂, ◌∙◌}
-use mathlib.Core.Bool.{Bool, true, ◌&&◌}
-use lib.Dec.{eqb}
-use lib.IntN.{pos}
-use lib.ListN.{take}
+-- `judging::all_zero` meets its contract: from the last bucket down, each is zero. Assumes nothing.
+use mathlib.Core.Path.{◌∙◌}
 use Rattle.std.proofs.Common.{rules, tests}
-use Rattle.std.proofs.lemmas.Iterator.{YieldsList-from_slice}
-use Rattle.std.proofs.lemmas.Iterator.Consumers.{fold_from_yields_List}
-use Rattle.std.specs.Ordering.{int_eq}
-use Rattle.filter.proofs.JudgeLaws.{fold-all, zero-columns}
+use Rattle.std.proofs.lemmas.Iterator.Search.{all_from_yields_List}
+use Rattle.bucket.specs.Columns.{columns, view}
+use Rattle.bucket.specs.Bucket.{is_zero}
+use Rattle.filter.proofs.JudgeLaws.{yields_down, zero-down}
 use Rattle.filter.proofs.judging.all_zero.Goals as goal
 
 pub returns : goal.returns
+unfolding view
 returns c = let a = c.args in
-    let is = take a.n a.ids.now in
-    let hs = take a.n a.hashes.now in
-    let cs = take a.n a.counts.now in
-    let i =
-    fold_from_yields_List _ (λ (t : Bool) x. t && eqb x 0) true _ c.fold-no_id.ensures.ran
-    (YieldsList-from_slice is cc) (λ t x b q k. search (rules, tests))
-    ∙ fold-all (λ x. eqb x 0) is true in
-    let h =
-    fold_from_yields_List _ (λ (t : Bool) x. t && eqb x 0) true _ c.fold-no_hash.ensures.ran
-    (YieldsList-from_slice hs cc) (λ t x b q k. search (rules, tests))
-    ∙ fold-all (λ x. eqb x 0) hs true in
-    let z =
-    fold_from_yields_List _ (λ (t : Bool) x. t && int_eq x (pos 0)) true _ c.fold-no_count.ensures.ran
-    (YieldsList-from_slice cs cc) (λ t x b q k. search (rules, tests))
-    ∙ fold-all (λ x. int_eq x (pos 0)) cs true in
-    ap₂ ◌&&◌ (ap₂ ◌&&◌ i h) z ∙ zero-columns a.n a.ids.now a.hashes.now a.counts.now c.requires
+    let f = view (columns a.ids.now a.hashes.now a.counts.now) in
+    all_from_yields_List (λ i. is_zero (f i)) _ _ _ c.all.ensures.ran (yields_down a.n c.rev.ensures.source) (λ x b q k. search (rules, tests))
+    ∙ zero-down f a.n
