@@ -23,13 +23,16 @@ pub fn build(
     ensures { built (number_of (result_err result)) (columns ids.new hashes.new counts.new)
         ≡ build_call first_eight size salt table.now (columns ids.old hashes.old counts.old) }
 {
-    if !crate::table::is_table(table) {
+    let formed = crate::table::is_table(table);
+    let ranged = crate::forms::in_range(size, salt);
+    let roomy = crate::forms::has_room(ids, hashes, counts, size);
+    if !formed {
         return Err(Refusal::Form);
     }
-    if !crate::forms::in_range(size, salt) {
+    if !ranged {
         return Err(Refusal::Range);
     }
-    if !crate::forms::has_room(ids, hashes, counts, size) {
+    if !roomy {
         return Err(Refusal::Room);
     }
     fill(table, ids, hashes, counts, size, salt);

@@ -22,10 +22,12 @@ pub fn build(
     ensures { built (number_of (result_err result)) (columns ids.new hashes.new counts.new)
         ≡ estimator_call first_eight 0 table.now (columns ids.old hashes.old counts.old) }
 {
-    if !crate::table::is_table(table) {
+    let formed = crate::table::is_table(table);
+    let roomy = crate::forms::has_room(ids, hashes, counts, 2528);
+    if !formed {
         return Err(Refusal::Form);
     }
-    if !crate::forms::has_room(ids, hashes, counts, 2528) {
+    if !roomy {
         return Err(Refusal::Room);
     }
     fill(table, ids, hashes, counts);
@@ -59,10 +61,12 @@ pub fn estimate(
         ≡ estimate_call 0 (columns ids.old hashes.old counts.old)
         (columns ids2.now hashes2.now counts2.now) }
 {
-    if !are_counts(counts, counts2) {
+    let counted = are_counts(counts, counts2);
+    let both_roomy = have_room(ids, hashes, counts, ids2, hashes2, counts2);
+    if !counted {
         return Err(Refusal::Form);
     }
-    if !have_room(ids, hashes, counts, ids2, hashes2, counts2) {
+    if !both_roomy {
         return Err(Refusal::Room);
     }
     crate::strata::subtract(ids, hashes, counts, ids2, hashes2, counts2, 2528);

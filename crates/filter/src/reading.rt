@@ -31,13 +31,16 @@ pub fn read(
     ensures { answered (answer_of result) (columns ids.new hashes.new counts.new) ours.new theirs.new
         ≡ read_call first_eight size salt table.now (columns ids.old hashes.old counts.old) ours.old theirs.old }
 {
-    if !is_well_formed(table, counts, size) {
+    let formed = is_well_formed(table, counts, size);
+    let ranged = crate::forms::in_range(size, salt);
+    let roomy = has_all_room(ids, hashes, counts, ours, theirs, size);
+    if !formed {
         return Err(Unread::Form);
     }
-    if !crate::forms::in_range(size, salt) {
+    if !ranged {
         return Err(Unread::Range);
     }
-    if !has_all_room(ids, hashes, counts, ours, theirs, size) {
+    if !roomy {
         return Err(Unread::Room);
     }
     read_difference(table, ids, hashes, counts, ours, theirs, size, salt)

@@ -7,20 +7,20 @@ use Rattle.bucket.proofs.TestLaws.{test_granted}
 use Rattle.filter.proofs.CallLaws.{Granted, read-ends, read_ready}
 use Rattle.std.proofs.Common.{ap}
 use Rattle.filter.proofs.reading.read.Goals as goal
-use Rattle.filter.proofs.reading.read.Goals.{Else-not-has_all_room}
+use Rattle.filter.proofs.reading.read.Goals.{Else-not-roomy}
 
 -- behind the three tests
-granted : (c : Else-not-has_all_room)
+granted : (c : Else-not-roomy)
     → let a = c.args in
     Granted a.size a.salt a.table.now (columns a.ids.now a.hashes.now a.counts.now) a.ours.now a.theirs.now
 granted c = record {
-  formed = test_granted c.is_well_formed.ensures (ap not c.if-not-is_well_formed.false);
-  ranged = test_granted c.in_range.ensures (ap not c.if-not-in_range.false);
-  roomy = test_granted c.has_all_room.ensures (ap not c.if-not-has_all_room.false);
+  formed = test_granted c.is_well_formed-formed.ensures (ap not c.if-not-formed.false);
+  ranged = test_granted c.in_range-ranged.ensures (ap not c.if-not-ranged.false);
+  roomy = test_granted c.has_all_room-roomy.ensures (ap not c.if-not-roomy.false);
 }
 
 pub read_difference-requires : goal.read_difference-requires
-read_difference-requires c = read_ready (granted (goal.at.read_difference-requires c).Else-not-has_all_room)
+read_difference-requires c = read_ready (granted (goal.at.read_difference-requires c).Else-not-roomy)
 
 pub returns : goal.returns
-returns c = c.read_difference.ensures ∙ read-ends (granted (goal.at.returns c).Else-not-has_all_room)
+returns c = c.read_difference.ensures ∙ read-ends (granted (goal.at.returns c).Else-not-roomy)
