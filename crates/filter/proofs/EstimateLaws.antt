@@ -41,10 +41,10 @@ module _ (a b : ℤ) (ha : nat_abs a < 2 ^ 33) (hb : nat_abs b < 2 ^ 33) where
   less-fits = small-fits (a +ℤ neg_ℤ b) (abs_small (a +ℤ neg_ℤ b) (omega (arith, abs_less a b)))
 
   -- what the code's difference must fit, and what it gives
-  count-less-fits : SFits w64 (to_z w64 (of_z w64 a) -ℤ to_z w64 (of_z w64 b))
+  pub count-less-fits : SFits w64 (to_z w64 (of_z w64 a) -ℤ to_z w64 (of_z w64 b))
   count-less-fits = rw (to_z-of_z w64 a left-fits, to_z-of_z w64 b right-fits) less-fits
 
-  count_less : to_z w64 (of_z w64 (to_z w64 (of_z w64 a) -ℤ to_z w64 (of_z w64 b))) ≡ a +ℤ neg_ℤ b
+  pub count_less : to_z w64 (of_z w64 (to_z w64 (of_z w64 a) -ℤ to_z w64 (of_z w64 b))) ≡ a +ℤ neg_ℤ b
   count_less = rw (to_z-of_z w64 a left-fits, to_z-of_z w64 b right-fits, to_z-of_z w64 (a +ℤ neg_ℤ b) less-fits)
 
 -- ---- a loop that subtracts one bucket after another: the first i buckets are done, d from what c₀ was

@@ -204,7 +204,7 @@ module _ (s : ℕ) (c : Columns) (h : s < 32) (w : Wide 2528 c) where
   stratum-within : Wide (79 * s + extent s) c
   stratum-within = wide-less (79 * s + extent s) 2528 c (omega (arith, h, extent_is s)) w
 
-  stratum-wide : Wide 79 (lent s c)
+  pub stratum-wide : Wide 79 (lent s c)
   stratum-wide = subst (λ (n : ℕ). Wide n (lent s c)) (extent_is s) (part-wide (79 * s) (extent s) c stratum-within)
 
   pub view-stratum : (i : ℕ) → i < 79 → view (lent s c) i ≡ stratum s (view c) i
