@@ -4,7 +4,7 @@ use mathlib.Core.Path.{◌≡◌, refl, sym, ap, ap₂, ◌∙◌, subst}
 use mathlib.Core.Bool.{Bool, true, false, cond}
 use mathlib.Core.List.{List, [], ◌∷◌, ◌++◌}
 use Prim.Native.Nat.{ℕ, zero, suc, ◌+◌, ◌-◌, ◌*◌, ◌/◌, ◌%◌, ◌^◌, ◌≤◌, ◌<◌}
-use native.Mathlib.Nat.{le_of_lt, suc-mul, mul-le-mul_right, zero-mod, mod-lt, mod-eq_of_lt, mod-mod, mul-suc, mul-add, add_comm, add_assoc, add-mul, mul_assoc, mul_comm, zero-add, zero-mul, mod-one, le_of_suc-le-suc, mul-zero, suc-add, div-add-mod, mul-one, div-lt_iff_lt-mul}
+use native.Mathlib.Nat.{le_of_lt, suc-mul, mul-le-mul_right, zero-mod, mod-lt, mod-eq_of_lt, mod-mod, mul-suc, mul-add, add_comm, add_assoc, add-mul, mul_assoc, mul_comm, zero-add, zero-mul, mod-one, div-one, le_of_suc-le-suc, mul-zero, suc-add, div-add-mod, mul-one, div-lt_iff_lt-mul}
 use native.Mathlib.Omega.{arith}
 use lib.Arith.{digits_lt}
 use lib.Dec.{eqb, ltb}
@@ -124,6 +124,20 @@ joined-bit w xs j pos lt =
 
     all : w * n ≡ w * (n - 1 - i) + (w * i + w)
     all = ap (λ (k : ℕ). w * k) whole ∙ simp (mul-add, mul-one)
+
+-- one more group
+pub groups_snoc : (w n x : ℕ) → groups w (n + 1) x ≡ groups w n (x / 2 ^ w) ++ x % 2 ^ w ∷ []
+unfolding groups
+groups_snoc w n x =
+    groups-append w n 1 x
+    ∙ ap₂ (λ (e q : ℕ). groups w n (x / 2 ^ e) ++ q % 2 ^ w ∷ []) (mul-one w) (ap (λ (e : ℕ). x / 2 ^ e) (mul-zero w) ∙ div-one x)
+
+-- the next byte of k
+pub byte_next : (k x j : ℕ) → j < k → groups 8 (j + 1) (x / 2 ^ (8 * (k - (j + 1)))) ≡ groups 8 j (x / 2 ^ (8 * (k - j))) ++ x / 2 ^ (8 * (k - 1 - j)) % 256 ∷ []
+byte_next k x j h =
+    groups_snoc 8 j (x / 2 ^ (8 * (k - (j + 1))))
+    ∙ ap₂ (λ (q e : ℕ). groups 8 j q ++ x / 2 ^ (8 * e) % 256 ∷ [])
+    (shr-shr x (8 * (k - (j + 1))) 8 ∙ ap (λ (e : ℕ). x / 2 ^ e) (omega arith)) (omega arith)
 
 -- ---- the order
 

@@ -1,7 +1,7 @@
 // Numbers as bytes, most significant first.
-ghost use Rattle.std.specs.Prelude.{◌≡◌, ◌<◌, ◌≤◌, min, length};
-ghost use Rattle.bucket.specs.Digits.{joined, put_into};
-ghost use Rattle.bucket.specs.Lists.{part};
+ghost use Rattle.std.specs.Prelude.{◌≡◌, ◌+◌, ◌<◌, ◌≤◌, min, length};
+ghost use Rattle.bucket.specs.Digits.{joined, groups, put_into};
+ghost use Rattle.bucket.specs.Lists.{over, part};
 
 // The number in the k bytes from a position on: of at most eight, and of those that are there.
 pub fn number_at(s: &[u8], at: usize, k: usize) -> u64
@@ -27,7 +27,7 @@ pub fn put_number(s: &mut [u8], at: usize, k: usize, x: u64)
     if 8 < k || s.len() < k || s.len() - k < at {
         return;
     }
-    s[at..at + k].copy_from_slice(&x.to_be_bytes()[8 - k..]);
+    put_groups(s, at, k, x);
 }
 
 // A byte as a number: a function, so that callers owe only the index, and know the bound.
@@ -35,6 +35,16 @@ pub fn wide(x: u8) -> u64
     ensures { (result ≡ x) × (result < 256) }
 {
     u64::from(x)
+}
+
+// The k low bytes of x from a position on, where they fit: one at a time, since a copy of k bytes is compiled to a call of memcpy.
+fn put_groups(s: &mut [u8], at: usize, k: usize, x: u64)
+    requires { (at + k ≤ length s.old) × (k ≤ 8) }
+    ensures { s.new ≡ over at (groups 8 k x) s.old }
+{
+    for j in 0..k {
+        s[at + j] = ((x >> (8 * (k - 1 - j))) % 256) as u8;
+    }
 }
 
 // The number in at most eight bytes.

@@ -1,4 +1,4 @@
-// Numbers put into a lent buffer, where there is room for them. The buffer goes with a position, as the C interface lends it
+// Numbers and bytes put into a lent buffer, where there is room for them. The buffer goes with a position, as the C interface lends it
 // (tandawire_filter_write, tandawire_element_write).
 ghost use Rattle.std.specs.Prelude.{◌≡◌, [], ◌∷◌, map, ℕ, ◌+◌, ◌*◌, ◌^◌, ◌≤◌, ◌<◌, length};
 ghost use Rattle.std.proofs.Common.{rules};
@@ -71,6 +71,16 @@ pub(crate) fn put_numbers<T: Number>(xs: &[T], out: &mut [u8], at: usize) -> usi
         bucket::bytes::put_number(out, at + T::BYTES * j, T::BYTES, x.number());
     }
     at + T::BYTES * xs.len()
+}
+
+// Bytes as they are. One at a time, so that the archives need no memmove from outside.
+pub(crate) fn put_bytes(bytes: &[u8], out: &mut [u8], at: usize)
+    requires { at + length bytes.now ≤ length out.old }
+    ensures { out.new ≡ over at bytes.now out.old }
+{
+    for j in 0..bytes.len() {
+        out[at + j] = bytes[j];
+    }
 }
 
 // Two numbers of k bytes.

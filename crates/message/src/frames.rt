@@ -8,7 +8,7 @@ ghost use Rattle.message.specs.Layout.{inquiry, layout, framed, in_slice, slice_
 ghost use Rattle.message.specs.Writing.{slice_at, layouts, slices_of};
 ghost use Rattle.message.specs.Putting.{head_of, SlicePut, FilterPut, filter_bytes};
 
-use crate::copying::{put_numbers, put_pair};
+use crate::copying::{put_bytes, put_numbers, put_pair};
 use crate::kinds::{Kind, Slice};
 use crate::slices::{SECOND, in_slice, slice_bytes, slice_type};
 
@@ -28,7 +28,7 @@ pub(crate) fn put_framed(kind: Kind, bytes: &[u8], out: &mut [u8], at: usize) ->
 {
     let size = 4 + bytes.len();
     put_start(kind, size, out, at);
-    out[at + 4..at + size].copy_from_slice(bytes);
+    put_bytes(bytes, out, at + 4);
     at + size
 }
 

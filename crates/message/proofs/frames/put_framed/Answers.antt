@@ -1,8 +1,8 @@
 -- `frames::put_framed` meets its contract: the bytes are copied behind the frame. Assumes nothing.
-use Rattle.std.proofs.Common.{List, [], ◌∷◌, ℕ, ◌+◌, length, ap, refl, ◌∙◌, add_assoc, arith}
+use Rattle.std.proofs.Common.{List, [], ◌∷◌, ℕ, ◌+◌, length, ap, refl, ◌∙◌, arith}
 use Rattle.bucket.specs.Digits.{packed}
 use Rattle.bucket.specs.Lists.{over}
-use Rattle.bucket.proofs.OverLaws.{then_over, over-part}
+use Rattle.bucket.proofs.OverLaws.{then_over}
 use Rattle.message.specs.Kinds.{type_of}
 use Rattle.message.proofs.WholeLaws.{whole_length}
 use Rattle.message.proofs.WriteLaws.{frame_put}
@@ -15,6 +15,5 @@ returns-clause-put c = let a = c.args in
     let len = whole_length 2 ((4 + length body) ∷ type_of a.kind ∷ []) in
     let first = c.put_start.ensures in
     then_over a.at a.out.now frame body {p = a.at + 4} first
-    (rw c.copy_from_slice.ensures.after (over-part (a.at + 4) (a.at + (4 + length body)) body _ (add_assoc a.at 4 (length body))))
-    (omega arith) (omega arith)
+    c.put_bytes.ensures (omega arith) (omega arith)
     ∙ ap (λ (q : List ℕ). over a.at q a.out.now) (frame_put (type_of a.kind) (length body) body refl)
