@@ -9,7 +9,7 @@ use lib.Pow.{pow-add, pow_pos, shr_lt, high, low, split, mod-pow-add, shl-shr}
 use Rattle.bucket.specs.Salt.{rot, turn, salted, unsalted}
 
 -- what a machine's shifts make: the j bits above the s low ones, and those s put above them
-rotation : (j s x : ℕ) → x < 2 ^ (j + s) → bit_or (x / 2 ^ s) (x * 2 ^ j % 2 ^ (j + s)) ≡ x / 2 ^ s + x % 2 ^ s * 2 ^ j
+pub rotation : (j s x : ℕ) → x < 2 ^ (j + s) → bit_or (x / 2 ^ s) (x * 2 ^ j % 2 ^ (j + s)) ≡ x / 2 ^ s + x % 2 ^ s * 2 ^ j
 rotation j s x h =
     ap (bit_or (x / 2 ^ s))
     (ap (λ (e : ℕ). x * 2 ^ j % 2 ^ e) (add_comm j s) ∙ mod-pow-add (x * 2 ^ j) s j

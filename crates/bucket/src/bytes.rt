@@ -30,7 +30,7 @@ pub fn put_number(s: &mut [u8], at: usize, k: usize, x: u64)
     put_groups(s, at, k, x);
 }
 
-// A byte as a number: a function, so that callers owe only the index, and know the bound.
+// A byte as a number, whose bound its callers know. For callers outside: the crates here convert bytes where they read them.
 pub fn wide(x: u8) -> u64
     ensures { (result ≡ x) × (result < 256) }
 {

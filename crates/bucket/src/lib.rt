@@ -14,7 +14,7 @@ pub mod salting;
 
 ghost use Rattle.std.specs.Prelude.{◌≡◌, min};
 
-// The lesser of two numbers: the library's, under the name that the crates above call it by.
+// The lesser of two numbers, for callers outside: the crates here call the library's own.
 pub fn least(x: usize, y: usize) -> usize
     ensures { result ≡ min x y }
 {

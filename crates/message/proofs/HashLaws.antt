@@ -3,22 +3,37 @@
 use mathlib.Core.Path.{◌≡◌, refl, sym, ap, ◌∙◌}
 use mathlib.Core.Bool.{Bool, true, false}
 use mathlib.Core.List.{List, ◌++◌}
-use Prim.Native.Nat.{ℕ, ◌+◌, ◌-◌, ◌*◌, ◌/◌, ◌%◌, ◌<◌}
+use Prim.Native.Nat.{ℕ, ◌+◌, ◌-◌, ◌*◌, ◌/◌, ◌%◌, ◌≤◌, ◌<◌}
 use native.Mathlib.Omega.{arith}
 use borrow.Author.Tests.{ltb-true, ltb-false}
 use lib.Dec.{ltb}
-use lib.ListN.{length, take, drop, get_or, get_or-append, length-append, length-drop}
-use lib.Seq.{ext_get_or, drop-append-add}
+use lib.ListN.{length, take, drop, get_or, get_or-append, length-append, length-drop, take-append-drop}
+use lib.Seq.{ext_get_or, drop-append-add, take_at, drop_at, length-take-le}
 use Rattle.std.proofs.lemmas.List.{take-append-le, drop-append-le, get_or-append_right}
 use Rattle.bucket.specs.Digits.{joined, packed, unpacked, Below}
 use Rattle.bucket.specs.Lists.{part}
 use Rattle.bucket.proofs.DigitLaws.{groups-length}
+use Rattle.bucket.proofs.OverLaws.{part_length}
 use Rattle.filter.specs.Table.{hashes_of}
 use Rattle.filter.proofs.TableLaws.{hashes-length, hash_at_lem}
 use Rattle.message.specs.Layout.{framed}
 use Rattle.message.specs.Putting.{framed_hashes}
 use Rattle.message.proofs.FrameLaws.{framed-length}
-use Rattle.message.proofs.WholeLaws.{whole_length, whole_back, item}
+use Rattle.message.proofs.WholeLaws.{whole_length, whole_back, item, packed-append}
+
+-- a part of numbers of k bytes each
+pub packed-part : (k i n : ℕ) (xs : List ℕ) → i + n ≤ length xs → part (k * i) (k * n) (packed (8 * k) xs) ≡ packed (8 * k) (part i n xs)
+packed-part k i n xs h =
+    ap (part (k * i) (k * n)) (ap (packed (8 * k)) (sym (take-append-drop i xs)) ∙ packed-append k (take i xs) (drop i xs))
+    ∙ ap (take (k * n)) (drop_at (packed (8 * k) (take i xs)) (packed (8 * k) (drop i xs)) (k * i) front)
+    ∙ ap (take (k * n)) (ap (packed (8 * k)) (sym (take-append-drop n (drop i xs))) ∙ packed-append k (part i n xs) (drop n (drop i xs)))
+    ∙ take_at (packed (8 * k) (part i n xs)) (packed (8 * k) (drop n (drop i xs))) (k * n) here
+  where
+    front : length (packed (8 * k) (take i xs)) ≡ k * i
+    front = whole_length k (take i xs) ∙ ap (λ (m : ℕ). k * m) (length-take-le i xs (omega arith))
+
+    here : length (packed (8 * k) (part i n xs)) ≡ k * n
+    here = whole_length k (part i n xs) ∙ ap (λ (m : ℕ). k * m) (part_length i xs n h)
 
 -- the hashes of whole hashes with others behind them
 pub hashes-append : (a b : List ℕ) → length a % 64 ≡ 0 → hashes_of (a ++ b) ≡ hashes_of a ++ hashes_of b
@@ -60,6 +75,14 @@ module _ (t : List ℕ) (below : Below 8 t) (whole : length t % 64 ≡ 0) where
 
   pub hashes-packed : packed 512 (hashes_of t) ≡ t
   hashes-packed = ap (packed 512) hashes-unpacked ∙ whole_back 64 (length t / 64) t long below
+
+  pub hashes-part : (i n : ℕ) → i + n ≤ length t / 64 → packed 512 (part i n (hashes_of t)) ≡ part (64 * i) (64 * n) t
+  hashes-part i n h =
+      sym (packed-part 64 i n (hashes_of t) (rw (hashes-length t) h)) ∙ ap (part (64 * i) (64 * n)) hashes-packed
+
+  pub framed-part : (kind i n : ℕ) → i + n ≤ length t / 64 → framed kind (part (64 * i) (64 * n) t) ≡ framed_hashes kind (part i n (hashes_of t))
+  unfolding framed_hashes
+  framed-part kind i n h = ap (framed kind) (sym (hashes-part i n h))
 
   pub framed-whole : (kind : ℕ) → framed kind t ≡ framed_hashes kind (hashes_of t)
   unfolding framed_hashes

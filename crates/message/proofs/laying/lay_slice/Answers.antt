@@ -1,15 +1,17 @@
 -- `message::laying::lay_slice` meets its contract: where each column has room, the three are laid one by one. Assumes nothing.
-use Prim.Native.Nat.{◌+◌}
+use Prim.Native.Nat.{ℕ, ◌+◌, ◌-◌, ◌*◌}
 use native.Mathlib.Nat.{add-sub_cancel_left}
 use native.Mathlib.Omega.{arith}
 use Rattle.bucket.specs.Columns.{columns}
+use Rattle.bucket.specs.Digits.{unpacked}
+use Rattle.bucket.specs.Lists.{part}
 use Rattle.bucket.proofs.OverLaws.{part_length}
 use Rattle.bucket.proofs.PackedLaws.{unpacked-length}
 use Rattle.bucket.proofs.TestLaws.{test_granted}
 use Rattle.filter.specs.Steps.{Wide}
 use Rattle.filter.proofs.FilledLaws.{wide_of}
 use Rattle.message.proofs.LayLaws.{laid-part, buckets_laid_lem}
-use Rattle.std.proofs.Common.{ap}
+use Rattle.std.proofs.Common.{◌≡◌, ap, ap₂, ◌∙◌, length}
 use mathlib.Core.Bool.{not}
 use Rattle.message.proofs.laying.lay_slice.Goals as goal
 use Rattle.message.proofs.laying.lay_slice.Goals.{Else-not-has_room}
@@ -29,7 +31,8 @@ pub returns : goal.returns
 returns c = let a = c.args in
     let b = a.slice in
     let room = wide (goal.at.returns c).Else-not-has_room in
-    let ids = rw (add-sub_cancel_left b.offset b.count, part_length b.offset a.ids.now b.count room.idsums, add-sub_cancel_left) at c.lay_numbers.ensures in
+    let lent : length (part b.offset (b.offset + b.count - b.offset) a.ids.now) ≡ b.count = rw add-sub_cancel_left (part_length b.offset a.ids.now b.count room.idsums) in
+    let ids = c.lay_numbers.ensures ∙ ap₂ (λ (n k : ℕ). unpacked 64 n (part 16 k a.s.now)) lent (add-sub_cancel_left 16 (8 * b.count)) in
     let hashes = rw (add-sub_cancel_left b.offset b.count, part_length b.offset a.hashes.now b.count room.hashsums, add-sub_cancel_left) at c.lay_numbers-2.ensures in
     buckets_laid_lem b.offset b.width b.count a.s.now (columns a.ids.now a.hashes.now a.counts.now)
     (test_granted c.has_room.ensures (ap not c.if-not-has_room.false))
