@@ -1,7 +1,7 @@
 // A small reader over lent bytes with its position (document 01, "Choosing the form by place": "One buffer may hold several messages end to end").
 // `next` answers what stands there with the reader behind it. `message_at` and `walk` take a plain slice.
 ghost use Rattle.std.specs.Prelude.{◌≡◌};
-ghost use Rattle.message.specs.Walking.{walk_at, whole_of, reader_at, next_of};
+ghost use Rattle.message.specs.Walking.{walk_at, is_found, ended, whole_of, reader_at, next_of};
 
 use crate::walking::{Broken, Found};
 
@@ -62,12 +62,32 @@ pub fn walk(s: &[u8]) -> Result<usize, Stop>
 {
     let mut taken = Reader::new(s, 0).next();
     let mut count = 0;
-    while let Some(walked) = taken.walked {
-        if let Err(Broken { start }) = walked {
-            return Err(Stop { count, start });
-        }
+    while is_found(taken.walked) {
         count += 1;
         taken = taken.rest.next();
     }
-    Ok(count)
+    ended(taken.walked, count)
+}
+
+// Whether a message was found.
+#[tactic(auto, unfolding(crate::specs::Walking::is_found))]
+fn is_found(walked: Option<Result<Found, Broken>>) -> bool
+    ensures { result ≡ is_found walked }
+{
+    match walked {
+        Some(Ok(_)) => true,
+        Some(Err(_)) => false,
+        None => false,
+    }
+}
+
+// What a walk answers that is over, with count messages before it.
+#[tactic(auto, unfolding(crate::specs::Walking::ended))]
+fn ended(walked: Option<Result<Found, Broken>>, count: usize) -> Result<usize, Stop>
+    ensures { result ≡ ended walked count }
+{
+    match walked {
+        Some(Ok(Found { start, .. })) | Some(Err(Broken { start })) => Err(Stop { count, start }),
+        None => Ok(count),
+    }
 }

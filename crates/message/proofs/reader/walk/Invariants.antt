@@ -4,10 +4,10 @@ use Rattle.std.proofs.Common.{◌≡◌, ℕ, ◌-◌, ◌≤◌, length}
 use Rattle.message.specs.Walking.{walk_at, behind, walk_on, whole_of}
 use Rattle.message.proofs.reader.walk.Given as goal
 
-abbrev pub invariant-loop-taken : goal.invariant-loop-taken
-invariant-loop-taken l = (at : ℕ)
+abbrev pub invariant-loop-count : goal.invariant-loop-count
+invariant-loop-count l = (at : ℕ)
     × ((l.taken.walked ≡ walk_at l.s at) × (l.taken.rest.src.now ≡ l.s) × (l.taken.rest.at ≡ behind (walk_at l.s at) at) × (l.count ≤ at)
     × (walk_on (length l.s - l.count) l.s (walk_at l.s at) l.count ≡ whole_of l.s))
 
-abbrev pub decreases-loop-taken : goal.decreases-loop-taken
-decreases-loop-taken l = length l.s - l.count
+abbrev pub decreases-loop-count : goal.decreases-loop-count
+decreases-loop-count l = length l.s - l.count
