@@ -121,7 +121,7 @@ fn is_below(table: &[u8], i: usize, hash: &[u8]) -> bool
 {
     let ours = bytes_of(table, i);
     let theirs = bytes_of(hash, 0);
-    // By index: a search by `<` of slices takes two thirds more time.
+    // By index: a search by `<` of slices takes more than half as much time again.
     for k in 0..64 {
         if ours[k] != theirs[k] {
             return ours[k] < theirs[k];

@@ -73,7 +73,7 @@ pub(crate) fn put_numbers<T: Number>(xs: &[T], out: &mut [u8], at: usize) -> usi
     at + T::BYTES * xs.len()
 }
 
-// Bytes as they are. One at a time, so that the archives need no memmove from outside.
+// Bytes as they are. One at a time, so that the archive of `probe` needs no memmove from outside.
 pub(crate) fn put_bytes(bytes: &[u8], out: &mut [u8], at: usize)
     requires { at + length bytes.now ≤ length out.old }
     ensures { out.new ≡ over at bytes.now out.old }
